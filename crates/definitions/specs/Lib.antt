@@ -1,1 +1,28 @@
+-- Document 01 as definitions, section by section and in its order. What must be believed of this product stands here and in
+-- the contracts that cite it; what follows from it is proved elsewhere.
+--   Logarithm      the logarithm of an amount, in ticks
+--   Weight         the weight of a variance
+--   Layout         the file and the mean record: fields, places, lengths
+--   Refusals       the checks 1 to 11, 14 and 15, in number order, with their places
+--   Observations   weights p, q, s, t, g and observations x, z, y of a file
+--   Loss           the loss of u/m times m²; distance
+--   Matrix         own weight, precision matrix, right-hand side, residue; passed or the first failing part
+--   Sweep          one step, one sweep, the sweeps of a call
+--   Machine        the session machine: each call's answer, and state and buffer afterwards
+--   Guarantee      what a passed mean is worth (demand 3)
+--   JointTable     the starred figures, as one theorem
+-- The words that the definitions are written in: ℕ and its operations, in which a difference stops at 0 and n / 0 is 0; lists
+-- (`lib.ListN`); ℤ (`lib.IntN`); tests (`leb`, `ltb`, `eqb` of `lib.Dec`); `sum n f`, which is f 0 + … + f (n − 1) over ℤ, and
+-- `total n f`, the same over ℕ (both of the crate `integers`); and the three of `Words`.
+pub mod Words
+pub mod Logarithm
 pub mod Weight
+pub mod Layout
+pub mod Refusals
+pub mod Observations
+pub mod Loss
+pub mod Matrix
+pub mod Sweep
+pub mod Machine
+pub mod Guarantee
+pub mod JointTable

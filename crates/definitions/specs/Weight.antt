@@ -1,5 +1,6 @@
+-- Document 01, "Weight of a variance v".
 use Prim.Native.Nat.{ℕ, _+_, _*_, _/_, _^_}
 
--- Weight of a variance v: floor((2^47 + v) / (2v))
+-- 2^46 / v to the nearest, halves up; of a variance of 0 it is 0
 unfoldable pub weight : ℕ → ℕ
 weight v = (2 ^ 47 + v) / (2 * v)

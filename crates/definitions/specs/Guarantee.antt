@@ -1,0 +1,62 @@
+-- Demand 3: what a passed mean is worth. A rational vector is any u over one m ≥ 1, with no limits; of u only the parts 0..2J
+-- count. Everything is stated in whole numbers: losses times m², residues times m, distances times m² and times the sum of D.
+use Prim.Native.Nat.{ℕ, _+_, _*_, _^_, _≤_, _<_}
+use mathlib.Core.Path.{_≡_}
+use mathlib.Core.Logic.{_≢_}
+use mathlib.Core.Bool.{true}
+use lib.IntN.{ℤ, pos, natAbs, _+ℤ_, _-ℤ_, _*ℤ_}
+use lib.Signed.{_≤ℤ_, _<ℤ_}
+use Rattle.integers.specs.Sum.{sum, total}
+use Rattle.definitions.specs.Layout.{Bytes, lastYear, closeness, parts}
+use Rattle.definitions.specs.Refusals.{partLimit}
+use Rattle.definitions.specs.Observations.{chainOf}
+use Rattle.definitions.specs.Loss.{Vector, weighted, loss, lossTimes}
+use Rattle.definitions.specs.Matrix.{own, residueTimes, figuresOf, passes}
+use Rattle.definitions.specs.Machine.{accepted}
+
+module _ (f : Bytes) where
+  abbrev pub partsOf : ℕ
+  partsOf = parts (lastYear f)
+
+  -- e² times the sum of own weights
+  abbrev pub slack : ℕ
+  slack = closeness f * closeness f * total partsOf (own (chainOf f))
+
+  -- each residue of u/m is 0
+  abbrev pub ZeroResidue : ℕ → Vector → Type 0
+  ZeroResidue m u = (k : ℕ) → k < partsOf → residueTimes (chainOf f) m u k ≡ pos 0
+
+  -- the weighted mean square distance of u/m and a mean, times m² and times the sum of D
+  abbrev pub distanceTimes : ℕ → Vector → Vector → ℤ
+  distanceTimes m u μ = sum partsOf (λ k. weighted (own (chainOf f) k) (u k -ℤ pos m *ℤ μ k))
+
+  -- u/m is another vector than the mean: it differs at some part
+  abbrev pub Another : ℕ → Vector → Vector → Type 0
+  Another m u μ = (k : ℕ) × (k < partsOf) × (u k ≢ pos m *ℤ μ k)
+
+  -- each part is within half a tick of u/m
+  abbrev pub WithinHalfATick : ℕ → Vector → Vector → Type 0
+  WithinHalfATick m u μ = (k : ℕ) → k < partsOf → 2 * natAbs (u k -ℤ pos m *ℤ μ k) ≤ m
+
+  -- a whole mean inside the limits
+  abbrev pub InsideLimits : Vector → Type 0
+  InsideLimits μ = (k : ℕ) → k < partsOf → natAbs (μ k) ≤ partLimit
+
+  pub record Guarantee (μ : Vector) : Type 0 where
+    -- "its loss is at most that of every other rational vector plus e² times the sum of own weights"
+    pub nearly-least : (m : ℕ) (u : Vector) → 1 ≤ m → (pos (m * m) *ℤ loss (chainOf f) μ) ≤ℤ (lossTimes (chainOf f) m u +ℤ pos (m * m * slack))
+    -- "every rational vector of zero residue is within e² in weighted mean square"
+    pub near : (m : ℕ) (u : Vector) → 1 ≤ m → ZeroResidue m u → distanceTimes m u μ ≤ℤ pos (m * m * slack)
+    -- "with zero residues of its own it is strictly least"
+    pub strictly-least : ZeroResidue 1 μ → (m : ℕ) (u : Vector) → 1 ≤ m → Another m u μ → (pos (m * m) *ℤ loss (chainOf f) μ) <ℤ lossTimes (chainOf f) m u
+
+  -- "with e ≥ 256 every whole mean inside the limits within half a tick of a zero-residue vector passes"
+  abbrev pub RoundingPasses : Type 0
+  RoundingPasses =
+      256 ≤ closeness f → (μ : Vector) → InsideLimits μ → (m : ℕ) (u : Vector) → 1 ≤ m → ZeroResidue m u → WithinHalfATick m u μ
+      → passes (figuresOf f) μ ≡ true
+
+-- demand 3, whole: for every accepted file, whoever proposed the mean
+pub record Demand3 : Type 0 where
+  pub guarantee : (f : Bytes) → accepted f ≡ true → (μ : Vector) → passes (figuresOf f) μ ≡ true → Guarantee f μ
+  pub rounding : (f : Bytes) → accepted f ≡ true → RoundingPasses f

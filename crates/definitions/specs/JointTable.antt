@@ -1,0 +1,106 @@
+-- The starred cases of document 01's "Figures to agree on", together, computed from the definitions.
+use Prim.Native.Nat.{ℕ, _+_, _^_}
+use mathlib.Core.Path.{_≡_, refl}
+use mathlib.Core.Bool.{true}
+use mathlib.Core.List.{List, [], _∷_, _++_}
+use lib.IntN.{ℤ, pos, negsuc}
+use lib.Count.{leadingZeros}
+use Rattle.integers.specs.Sum.{sum, total}
+use Rattle.definitions.specs.Words.{tabFrom, part}
+use Rattle.definitions.specs.Logarithm.{logarithm, bitsOf, highestBit, startFrom, nextBit, nextY}
+use Rattle.definitions.specs.Weight.{weight}
+use Rattle.definitions.specs.Layout.{Bytes, bigEndian, unsigned, twosComplement, rowStart}
+use Rattle.definitions.specs.Refusals.{fields, check1, check2, check3, check4, check5, check6, check7, check8, check9, check10, fileCheck}
+use Rattle.definitions.specs.Observations.{Chain, chainOf, ratioVariance, paidStep, incurredStep, lastRatio}
+use Rattle.definitions.specs.Matrix.{Figures, figuresOf, partOf, own, matrix, rightHand, residue, Judgement, passed, fails, judgement, judgeFrom}
+use Rattle.definitions.specs.Machine.{accepted, check16}
+
+-- ---- File F, byte by byte, with closeness e: J = 1, σ² and τ² all 2^30, prior variances 2^46, prior means 10T, T, −T
+
+abbrev 2^30-in-8 : Bytes
+2^30-in-8 = 0 ∷ 0 ∷ 0 ∷ 0 ∷ 64 ∷ 0 ∷ 0 ∷ 0 ∷ []
+
+abbrev 2^46-in-8 : Bytes
+2^46-in-8 = 0 ∷ 0 ∷ 64 ∷ 0 ∷ 0 ∷ 0 ∷ 0 ∷ 0 ∷ []
+
+-- 256·b, for the amounts
+abbrev amount-in-8 : ℕ → Bytes
+amount-in-8 b = 0 ∷ 0 ∷ 0 ∷ 0 ∷ 0 ∷ 0 ∷ b ∷ 0 ∷ []
+
+abbrev pub fileF : ℕ → Bytes
+fileF e =
+    (0 ∷ 0 ∷ 0 ∷ 118 ∷ 1 ∷ 1 ∷ 0 ∷ 0 ∷ 0 ∷ e ∷ [])
+    ++ 2^30-in-8 ++ 2^30-in-8 ++ 2^30-in-8
+    ++ (0 ∷ 160 ∷ 0 ∷ 0 ∷ []) ++ 2^46-in-8
+    ++ (0 ∷ 16 ∷ 0 ∷ 0 ∷ []) ++ 2^46-in-8
+    ++ (255 ∷ 240 ∷ 0 ∷ 0 ∷ []) ++ 2^46-in-8
+    -- paid 2^10, 2^11 / 2^10; incurred 2^12, 2^11 / 2^12
+    ++ amount-in-8 4 ++ amount-in-8 8 ++ amount-in-8 4
+    ++ amount-in-8 16 ++ amount-in-8 8 ++ amount-in-8 16
+
+abbrev F : Figures
+F = figuresOf (fileF 1)
+
+abbrev weights : Chain
+weights = chainOf (fileF 1)
+
+-- (10T + a, T + b, −T)
+abbrev mean : ℕ → ℕ → List ℤ
+mean a b = pos (10485760 + a) ∷ pos (1048576 + b) ∷ negsuc 1048575 ∷ []
+
+abbrev residues : List ℤ → List ℤ
+residues μ = tabFrom 0 3 (residue F (part μ))
+
+pub record JointTable : Type 0 where
+  pub log-of-1 : logarithm 1 ≡ 0
+  pub log-of-2^40 : logarithm (2 ^ 40) ≡ 41943040
+  pub log-of-3 : logarithm 3 ≡ 1661953
+  pub weight-of-2^18 : weight (2 ^ 18) ≡ 2 ^ 28
+  pub weight-of-2^46 : weight (2 ^ 46) ≡ 1
+  pub F-accepted : accepted (fileF 1) ≡ true
+  pub F-p : tabFrom 0 2 (weights .p) ≡ 65536 ∷ 65536 ∷ []
+  pub F-q : weights .q 0 ≡ 65536
+  pub F-g : weights .g 0 ≡ 32768
+  pub F-own : F .own ≡ 131073 ∷ 65537 ∷ 65537 ∷ []
+  pub F-matrix :
+      F .matrix
+      ≡ (pos 131073 ∷ pos 0 ∷ pos 0 ∷ [])
+      ∷ (pos 0 ∷ pos 98305 ∷ negsuc 32767 ∷ [])
+      ∷ (pos 0 ∷ negsuc 32767 ∷ pos 98305 ∷ [])
+      ∷ []
+  -- 1,310,730T, 131,073T, −131,073T
+  pub F-right-hand : F .rightHand ≡ pos 1374400020480 ∷ pos 137440002048 ∷ negsuc 137440002047 ∷ []
+  -- (10T, T, −T)
+  pub zero-residues : residues (mean 0 0) ≡ pos 0 ∷ pos 0 ∷ pos 0 ∷ []
+  pub zero-residues-pass : judgement F (part (mean 0 0)) ≡ passed
+  -- (10T + 1, T, −T) and (10T + 2, T, −T)
+  pub residue-at-the-bound : residues (mean 1 0) ≡ pos 131073 ∷ pos 0 ∷ pos 0 ∷ []
+  pub one-tick-passes : judgement F (part (mean 1 0)) ≡ passed
+  pub two-ticks-fail : judgement F (part (mean 2 0)) ≡ fails 0
+  -- (10T, T + 1, −T), with e = 1 and with e = 2
+  pub part-1-fails : judgement F (part (mean 0 1)) ≡ fails 1
+  pub part-1-passes-with-e-2 : judgement (figuresOf (fileF 2)) (part (mean 0 1)) ≡ passed
+
+pub jointTable : JointTable
+unfolding leadingZeros sum total tabFrom logarithm bitsOf highestBit startFrom nextBit nextY weight bigEndian unsigned twosComplement rowStart fields check1 check2 check3 check4 check5 check6 check7 check8 check9 check10 fileCheck check16 ratioVariance paidStep incurredStep lastRatio figuresOf partOf own matrix rightHand residue judgeFrom
+jointTable = record {
+  log-of-1 = refl;
+  log-of-2^40 = refl;
+  log-of-3 = refl;
+  weight-of-2^18 = refl;
+  weight-of-2^46 = refl;
+  F-accepted = refl;
+  F-p = refl;
+  F-q = refl;
+  F-g = refl;
+  F-own = refl;
+  F-matrix = refl;
+  F-right-hand = refl;
+  zero-residues = refl;
+  zero-residues-pass = refl;
+  residue-at-the-bound = refl;
+  one-tick-passes = refl;
+  two-ticks-fail = refl;
+  part-1-fails = refl;
+  part-1-passes-with-e-2 = refl;
+}

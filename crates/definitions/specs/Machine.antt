@@ -1,0 +1,149 @@
+-- Document 01, "The session", with the refusals of the input and of the state in their orders: for every state and call the answer,
+-- and the state and the lent buffer afterwards. A refused call leaves both as they were.
+use Prim.Native.Nat.{ℕ, _+_, _*_}
+use mathlib.Core.Bool.{Bool, true, false, not, cond}
+use mathlib.Core.List.{List, [], _∷_, _++_}
+use lib.IntN.{ℤ, natAbs}
+use lib.ListN.{length, drop}
+use lib.Dec.{leb, ltb, eqb}
+use Rattle.definitions.specs.Words.{within, tabFrom, part}
+use Rattle.definitions.specs.Layout.{Bytes, lastYear, parts, priorMean, rowBytes, recordLength, meanOf, recordOf}
+use Rattle.definitions.specs.Refusals.{Check, clear, refuses, _then_, fields, fileCheck, rowCheck, recordCheck}
+use Rattle.definitions.specs.Observations.{chainOf}
+use Rattle.definitions.specs.Matrix.{Figures, figuresOf, matrix, Judgement, judgement, passes}
+use Rattle.definitions.specs.Sweep.{Swept, sweeps, sweepLimit}
+
+-- ---- open's checks: 1 to 10, then 16, a diagonal entry of A that is zero
+
+unfoldable pub check16 : Bytes → Check
+check16 f = fields (λ k. not (eqb (natAbs (matrix (chainOf f) k k)) 0)) 16 (λ k. 0) 0 (parts (lastYear f))
+
+abbrev pub openCheck : Bytes → Check
+openCheck f = fileCheck f then check16 f
+
+abbrev pub isClear : Check → Bool
+isClear clear = true
+isClear (refuses number place) = false
+
+-- a file is accepted exactly if none of open's input checks refuses it
+abbrev pub accepted : Bytes → Bool
+accepted f = isClear (openCheck f)
+
+-- ---- calls, answers, states
+
+pub data Call : Type 0 where
+  open-file : (file : Bytes) → Call
+  judge : (meanRecord : Bytes) → Call
+  sweep : (n : ℕ) → Call
+  read : (buffer : Bytes) → Call
+  row : (file : Bytes) (channel year : ℕ) → Call
+  row-told : (file : Bytes) (channel year : ℕ) → Call
+  close : Call
+
+pub data Answer : Type 0 where
+  refused : (number place : ℕ) → Answer
+  opened : Answer
+  judged : Judgement → Answer
+  settled : (total : ℕ) → Answer
+  going : (total : ℕ) → Answer
+  written : Answer
+  part-shown : Bytes → Answer
+  row-is-shown : Answer
+  closed : Answer
+
+abbrev pub refusedOr : Check → Answer → Answer
+refusedOr clear a = a
+refusedOr (refuses number place) a = refused number place
+
+-- Empty, or what is kept of the accepted file, the mean and the total. Document 01's machine keeps the file itself; a session keeps
+-- its figures.
+pub data State (X : Type 0) : Type 0 where
+  empty : State X
+  holds : X → List ℤ → ℕ → State X
+
+-- the buffer is the one that `read` was lent, and no byte for any other call
+pub record Outcome (X : Type 0) : Type 0 where
+  pub answer : Answer
+  pub state : State X
+  pub buffer : Bytes
+
+-- ---- row: needs no session
+
+-- empty exactly when refused
+abbrev pub partUnless : Check → Bytes → Bytes
+partUnless clear b = b
+partUnless (refuses number place) b = []
+
+unfoldable pub rowPart : Bytes → ℕ → ℕ → Bytes
+rowPart f channel year = partUnless (rowCheck f channel year) (rowBytes f channel year)
+
+-- ---- the calls, over what is kept of a file
+
+module _ (X : Type 0) (keep : Bytes → X) (figures : X → Figures) where
+  -- a call that answers and leaves the state as it was
+  abbrev pub answers : State X → Answer → Outcome X
+  answers st a = record { answer = a; state = st; buffer = [] }
+
+  -- open: the prior means as mean, 0 sweeps
+  abbrev pub openUnless : Check → Bytes → Outcome X
+  openUnless clear f = record { answer = opened; state = holds (keep f) (tabFrom 0 (parts (lastYear f)) (priorMean f)) 0; buffer = [] }
+  openUnless (refuses number place) f = answers empty (refused number place)
+
+  unfoldable pub openCall : State X → Bytes → Outcome X
+  openCall empty f = openUnless (openCheck f) f
+  openCall (holds x μ total) f = answers (holds x μ total) (refused 22 0)
+
+  unfoldable pub judgeCall : State X → Bytes → Answer
+  judgeCall empty r = refused 21 0
+  judgeCall (holds x μ total) r =
+      refusedOr (recordCheck (figures x .last) r) (judged (judgement (figures x) (part (meanOf (figures x .last) r))))
+
+  -- settled exactly when the mean held after it passes
+  abbrev pub sweptTo : X → Swept → Outcome X
+  sweptTo x h = record {
+    answer = cond (passes (figures x) (part (h .mean))) (settled (h .swept)) (going (h .swept));
+    state = holds x (h .mean) (h .swept);
+    buffer = [];
+  }
+
+  -- 21, 12, settled, 23
+  unfoldable pub sweepCall : State X → ℕ → Outcome X
+  sweepCall empty n = answers empty (refused 21 0)
+  sweepCall (holds x μ total) n =
+      let swept = sweptTo x (sweeps (figures x) n μ total) in
+      cond (not (within 1 sweepLimit n)) (answers (holds x μ total) (refused 12 0))
+      (cond (passes (figures x) (part μ)) (answers (holds x μ total) (settled total))
+      (cond (leb sweepLimit total) (answers (holds x μ total) (refused 23 0)) swept))
+
+  abbrev pub reads : State X → Answer → Bytes → Outcome X
+  reads st a b = record { answer = a; state = st; buffer = b }
+
+  -- 21, 24, 13; the bytes behind the record stay
+  unfoldable pub readCall : State X → Bytes → Outcome X
+  readCall empty b = reads empty (refused 21 0) b
+  readCall (holds x μ total) b =
+      cond (not (passes (figures x) (part μ))) (reads (holds x μ total) (refused 24 0) b)
+      (cond (ltb (length b) (recordLength (figures x .last))) (reads (holds x μ total) (refused 13 0) b)
+      (reads (holds x μ total) written (recordOf (figures x .last) μ ++ drop (recordLength (figures x .last)) b)))
+
+  unfoldable pub outcome : State X → Call → Outcome X
+  outcome st (open-file f) = openCall st f
+  outcome st (judge r) = answers st (judgeCall st r)
+  outcome st (sweep n) = sweepCall st n
+  outcome st (read b) = readCall st b
+  outcome st (row f channel year) = answers st (part-shown (rowPart f channel year))
+  outcome st (row-told f channel year) = answers st (refusedOr (rowCheck f channel year) row-is-shown)
+  outcome st close = record { answer = closed; state = empty; buffer = [] }
+
+  -- the outcomes of a list of calls, one after another
+  unfoldable pub outcomes : State X → List Call → List (Outcome X)
+  outcomes st [] = []
+  outcomes st (call ∷ calls) = outcome st call ∷ outcomes (outcome st call .state) calls
+
+-- document 01's session machine
+abbrev pub machine : State Bytes → Call → Outcome Bytes
+machine = outcome Bytes (λ f. f) figuresOf
+
+-- the same over a file's figures, which is all that the calls use of a file
+abbrev pub figuresMachine : State Figures → Call → Outcome Figures
+figuresMachine = outcome Figures figuresOf (λ F. F)
