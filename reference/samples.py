@@ -1,0 +1,156 @@
+"""Files to try the desk on: File F of document 01, files at the limits, files hard to settle, drawn files."""
+
+from collections.abc import Callable
+from dataclasses import replace
+from random import Random
+
+import layout
+from layout import (
+    AMOUNT_LIMITS, CLOSENESS_LIMITS, MEAN_LIMITS, PRIOR_VARIANCE_LIMITS, VARIANCE_LIMITS, File, Triangle,
+)
+from scales import TICKS_PER_DOUBLING as T
+
+CLOSENESSES = (1, 2, 64, 256, 65_536)
+
+
+def file_f(closeness: int = 1) -> File:
+    """File F of document 01; with closeness 2 its other figure."""
+    return File(
+        last=1,
+        closeness=closeness,
+        sigma2=(1 << 30, 1 << 30),
+        tau2=(1 << 30,),
+        prior_means=(10 * T, T, -T),
+        prior_variances=(1 << 46, 1 << 46, 1 << 46),
+        paid=((1 << 10, 1 << 11), (1 << 10,)),
+        incurred=((1 << 12, 1 << 11), (1 << 12,)),
+    )
+
+
+def filled_triangle(last: int, amount: Callable[[], int]) -> Triangle:
+    return tuple(tuple(amount() for _ in range(last - year + 1)) for year in range(last + 1))
+
+
+def with_same_end(file: File) -> File:
+    """The file with year 0's last incurred amount made equal to its last paid one, as check 10 asks."""
+    first = file.incurred[0][:-1] + file.paid[0][-1:]
+    return replace(file, incurred=(first,) + file.incurred[1:])
+
+
+def file_at_limits(last: int, end: int) -> File:
+    """Every field at its lowest (end 0) or highest (end 1) value."""
+    parts = layout.parts_count(last)
+    triangle = filled_triangle(last, lambda: AMOUNT_LIMITS[end])
+    return File(
+        last=last,
+        closeness=CLOSENESS_LIMITS[end],
+        sigma2=(VARIANCE_LIMITS[end],) * (last + 1),
+        tau2=(VARIANCE_LIMITS[end],) * last,
+        prior_means=(MEAN_LIMITS[end],) * parts,
+        prior_variances=(PRIOR_VARIANCE_LIMITS[end],) * parts,
+        paid=triangle,
+        incurred=triangle,
+    )
+
+
+def spent_at_a_limit(closeness: int = 1, sign: int = 1) -> File:
+    """J = 1: phi 1 belongs near 66 doublings but is kept at 64, so its residue never comes near enough.
+
+    psi 0 is held near 52 by a prior at 64 and an observation at 40, year 1 asks phi 1 for 40 more than psi 0,
+    and phi 1's own observation is at 40: half of 92 and 40 is 66. With sign -1 all of it below zero.
+    """
+    low, high = AMOUNT_LIMITS[::sign]
+    return File(
+        last=1,
+        closeness=closeness,
+        sigma2=(1 << 30, 1 << 40),
+        tau2=(1 << 18,),
+        prior_means=(0, 0, sign << 26),
+        prior_variances=(1 << 46, 1 << 46, 1 << 18),
+        paid=((low, high), (low,)),
+        incurred=((low, high), (high,)),
+    )
+
+
+def many_sweeps(last: int = 15, closeness: int = 4) -> File:
+    """The last phi and psi share every g and start far off together: each sweep goes only part of the way."""
+    ones = filled_triangle(last, lambda: 1)
+    return File(
+        last=last,
+        closeness=closeness,
+        sigma2=(1 << 18,) * last + (1 << 40,),
+        tau2=(1 << 18,) * (last - 1) + (1 << 40,),
+        prior_means=(0,) * last + (1 << 26,) + (0,) * (last - 1) + (1 << 26,),
+        prior_variances=(1 << 46,) * layout.parts_count(last),
+        paid=ones,
+        incurred=ones,
+    )
+
+
+def half_tick(offset: int) -> File:
+    """J = 1: phi 0 is half a tick from its rest (its prior mean `offset` = 1 above or -1 below 10 doublings).
+
+    Its prior has twice the weight of an observation, so its own equation is 4p*phi = 4p*10T + 2p*offset.
+    Phi 1 and psi 0 start far off, so a sweep is run; the half above must stay and the half below must go up.
+    """
+    f = file_f()
+    return replace(f, prior_means=(10 * T + offset, 0, 0), prior_variances=(1 << 29, 1 << 46, 1 << 46))
+
+
+def drawn_file(rng: Random, last: int | None = None) -> File:
+    """An accepted file: mild, spread over all magnitudes, or made of the limits only."""
+    last = rng.randint(1, 15) if last is None else last
+    return with_same_end(rng.choice((_mild_file, _spread_file, _extreme_file))(rng, last))
+
+
+def _mild_file(rng: Random, last: int) -> File:
+    """Triangles that grow as a portfolio's do, deviations of some per cent."""
+    def grown(columns: int) -> tuple[int, ...]:
+        amounts = [rng.randint(500_000, 2_000_000)]
+        for _ in range(columns - 1):
+            amounts.append(amounts[-1] * rng.randint(900, 1_500) // 1_000)
+        return tuple(amounts)
+
+    parts = layout.parts_count(last)
+    variances = tuple(rng.randint(1 << 20, 1 << 36) for _ in range(parts))
+    return File(
+        last=last,
+        closeness=rng.choice(CLOSENESSES),
+        sigma2=variances[:last + 1],
+        tau2=variances[last + 1:],
+        prior_means=tuple(rng.randint(-T, T) for _ in range(parts)),
+        prior_variances=tuple(1 << rng.randint(40, 46) for _ in range(parts)),
+        paid=tuple(grown(last - year + 1) for year in range(last + 1)),
+        incurred=tuple(grown(last - year + 1) for year in range(last + 1)),
+    )
+
+
+def _spread_file(rng: Random, last: int) -> File:
+    return _file_of(rng, last, lambda limits: _any_magnitude(rng, limits))
+
+
+def _extreme_file(rng: Random, last: int) -> File:
+    return _file_of(rng, last, rng.choice)
+
+
+def _any_magnitude(rng: Random, limits: tuple[int, int]) -> int:
+    low, high = limits
+    if low < 0:
+        return rng.randint(low, high)
+    bits = rng.randint(low.bit_length(), high.bit_length())
+    return min(max(rng.getrandbits(bits), low), high)
+
+
+def _file_of(rng: Random, last: int, value: Callable[[tuple[int, int]], int]) -> File:
+    parts = layout.parts_count(last)
+    variances = tuple(value(VARIANCE_LIMITS) for _ in range(parts))
+    return File(
+        last=last,
+        closeness=rng.choice(CLOSENESSES),
+        sigma2=variances[:last + 1],
+        tau2=variances[last + 1:],
+        prior_means=tuple(value(MEAN_LIMITS) for _ in range(parts)),
+        prior_variances=tuple(value(PRIOR_VARIANCE_LIMITS) for _ in range(parts)),
+        paid=filled_triangle(last, lambda: value(AMOUNT_LIMITS)),
+        incurred=filled_triangle(last, lambda: value(AMOUNT_LIMITS)),
+    )

@@ -1,0 +1,31 @@
+"""Document 01, "From amounts to the loss": the logarithm of an amount and the weight of a variance.
+
+These are the only two formulas that turn one unit into another: an amount into ticks, a variance in
+squared ticks into a weight. Everything here is in whole numbers.
+"""
+
+TICKS_PER_DOUBLING = 1 << 20  # T of document 01: a tick is 1/T of a doubling
+LOGARITHM_BITS = 20
+
+
+def logarithm(amount: int) -> int:
+    """Ticks L of an amount of at least 1, with 2^L <= amount^T < 2^(L+2)."""
+    if amount < 1:
+        raise ValueError(f"an amount is at least 1, not {amount}")
+    whole = amount.bit_length() - 1
+    # y is the amount as a 32-bit number from 2^31 on; an amount above 32 bits loses its lowest ones.
+    y = amount << (31 - whole) if whole <= 31 else amount >> (whole - 31)
+    bits = 0
+    for _ in range(LOGARITHM_BITS):
+        square = y * y
+        bit = 1 if square >= 1 << 63 else 0
+        y = square >> (31 + bit)
+        bits = 2 * bits + bit
+    return whole * TICKS_PER_DOUBLING + bits
+
+
+def weight(variance: int) -> int:
+    """2^46 over the variance, to the nearest whole number, halves up."""
+    if variance < 1:
+        raise ValueError(f"a variance is at least 1, not {variance}")
+    return ((1 << 47) + variance) // (2 * variance)

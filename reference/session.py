@@ -1,0 +1,154 @@
+"""Document 01, "The session" and "Turned back by the state": the machine, call by call.
+
+The state is EMPTY, or the accepted file with its figures, the mean and the total. A call takes the state and
+gives its answer with the state afterwards. A state is never changed in place, so a refused call gives back
+the very state it was handed.
+"""
+
+from dataclasses import dataclass
+
+import chain
+import layout
+from layout import File, Refusal
+
+MOST_SWEEPS = 4_096
+
+
+@dataclass(frozen=True)
+class Held:
+    """A file is open."""
+
+    file: File
+    figures: chain.Figures
+    mean: tuple[int, ...]
+    total: int
+
+    def residues(self) -> list[int]:
+        return chain.residues_of(self.figures, self.mean)
+
+    def passes(self) -> bool:
+        return chain.first_failing_part(self.figures, self.residues()) is None
+
+
+EMPTY = None
+State = Held | None
+
+
+@dataclass(frozen=True)
+class Opened:
+    pass
+
+
+@dataclass(frozen=True)
+class Passed:
+    pass
+
+
+@dataclass(frozen=True)
+class Fails:
+    part: int
+
+
+@dataclass(frozen=True)
+class Settled:
+    total: int
+
+
+@dataclass(frozen=True)
+class Going:
+    total: int
+
+
+@dataclass(frozen=True)
+class Written:
+    pass
+
+
+@dataclass(frozen=True)
+class Shown:
+    pass
+
+
+def open_file(state: State, lent: bytes) -> tuple[Opened | Refusal, State]:
+    """22, then 1 to 10 and 16."""
+    if state is not EMPTY:
+        return Refusal(22), state
+    file = layout.read_file(lent)
+    if isinstance(file, Refusal):
+        return file, state
+    figures = chain.figures_of(file)
+    if chain.has_zero_on_diagonal(figures.matrix):
+        return Refusal(16), state
+    return Opened(), Held(file, figures, file.prior_means, 0)
+
+
+def judge(state: State, lent: bytes) -> Passed | Fails | Refusal:
+    """21, then 1, 2, 4 and 11; the state is untouched, so only the answer is given."""
+    if state is EMPTY:
+        return Refusal(21)
+    parts = layout.read_record(lent, state.file.last)
+    if isinstance(parts, Refusal):
+        return parts
+    failing = chain.first_failing_part(state.figures, chain.residues_of(state.figures, parts))
+    return Passed() if failing is None else Fails(failing)
+
+
+def sweep(state: State, number: int) -> tuple[Settled | Going | Refusal, State]:
+    """21, 12, settled, 23; then up to `number` sweeps."""
+    if state is EMPTY:
+        return Refusal(21), state
+    if not 1 <= number <= MOST_SWEEPS:
+        return Refusal(12), state
+    if state.passes():
+        return Settled(state.total), state
+    if state.total == MOST_SWEEPS:
+        return Refusal(23), state
+    return _run_sweeps(state, number)
+
+
+def _run_sweeps(state: Held, number: int) -> tuple[Settled | Going, Held]:
+    """At least one sweep, as neither the mean passes nor the total is reached."""
+    figures, total = state.figures, state.total
+    mean, residues = list(state.mean), state.residues()
+    passes = False
+    while not passes and total < min(state.total + number, MOST_SWEEPS):
+        chain.sweep_once(figures, mean, residues)
+        total += 1
+        passes = chain.first_failing_part(figures, residues) is None
+    after = Held(state.file, figures, tuple(mean), total)
+    return (Settled(total) if passes else Going(total)), after
+
+
+def read(state: State, buffer: bytes) -> tuple[Written | Refusal, bytes]:
+    """21, 24, 13; the answer and the buffer afterwards. The state is untouched."""
+    if state is EMPTY:
+        return Refusal(21), buffer
+    if not state.passes():
+        return Refusal(24), buffer
+    record = layout.build_record(state.mean)
+    if len(buffer) < len(record):
+        return Refusal(13), buffer
+    return Written(), record + buffer[len(record):]
+
+
+def row(lent: bytes, channel: int, year: int) -> bytes:
+    """The accident year's part of the paid (0) or incurred (1) block; empty exactly when it refuses."""
+    if isinstance(row_told(lent, channel, year), Refusal):
+        return b""
+    return layout.row_of(lent, channel, year)
+
+
+def row_told(lent: bytes, channel: int, year: int) -> Shown | Refusal:
+    """Row's second call: 1 to 10, 14, 15."""
+    file = layout.read_file(lent)
+    if isinstance(file, Refusal):
+        return file
+    if channel > layout.INCURRED:
+        return Refusal(14)
+    if year > file.last:
+        return Refusal(15)
+    return Shown()
+
+
+def close(_state: State) -> State:
+    return EMPTY

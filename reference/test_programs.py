@@ -1,0 +1,142 @@
+"""The listing, the script of calls, and the command line."""
+
+import os
+import struct
+import subprocess
+import sys
+import tempfile
+import unittest
+from io import BytesIO
+from pathlib import Path
+
+import damage
+import layout
+import samples
+import script
+from layout import build_file, build_record
+from listing import listing
+
+REFERENCE = Path(__file__).resolve().parent
+F = build_file(samples.file_f())
+
+
+def answers(given: bytes) -> list[str]:
+    return list(script.answers(BytesIO(given)))
+
+
+def string(lent: bytes) -> bytes:
+    return struct.pack(">I", len(lent)) + lent
+
+
+class Listing(unittest.TestCase):
+    def test_file_f(self) -> None:
+        self.assertEqual(listing(F), "J 1\nsweeps 0\nphi 0 10485760\nphi 1 1048576\npsi 0 -1048576\n")
+
+    def test_refusals(self) -> None:
+        for given, printed in (
+            (b"", "refused 1 at 0\n"),
+            (damage.put(F, 86, 0, 8), "refused 9 at 86\n"),
+            (damage.put(F, 102, 1 << 12, 8), "refused 10 at 78\n"),
+            (bytes(2_807), "refused 1 at 0\n"),
+            (layout.with_length(build_file(samples.many_sweeps())[4:] + b"\0"), "refused 1 at 0\n"),
+            (damage.put(build_file(samples.many_sweeps()), 2_798, 0, 8), "refused 9 at 2798\n"),
+        ):
+            self.assertEqual(listing(given), printed)
+
+    def test_spent(self) -> None:
+        self.assertEqual(listing(build_file(samples.spent_at_a_limit())), "spent 4096\n")
+
+    def test_lines_of_the_longest_file(self) -> None:
+        lines = listing(build_file(samples.many_sweeps())).splitlines()
+        self.assertEqual(len(lines), 2 + 31)
+        names = [f"phi {j}" for j in range(16)] + [f"psi {j}" for j in range(15)]
+        self.assertEqual([line.rsplit(" ", 1)[0] for line in lines], ["J", "sweeps"] + names)
+
+
+class Script(unittest.TestCase):
+    def test_every_letter(self) -> None:
+        t = 1 << 20
+        given = (
+            b"s" + struct.pack(">I", 1) + b"o" + string(F) + b"o" + string(F)
+            + b"j" + string(build_record((10 * t + 1, t, -t)))
+            + b"j" + string(build_record((10 * t, t + 1, -t)))
+            + b"s" + struct.pack(">I", 1) + b"r" + struct.pack(">I", 18) + b"r" + struct.pack(">I", 2)
+            + b"w" + string(F) + struct.pack(">II", 1, 0) + b"w" + string(F) + struct.pack(">II", 0, 2)
+            + b"c" + b"r" + struct.pack(">I", 0) + b"o" + string(build_file(samples.many_sweeps(2)))
+            + b"s" + struct.pack(">I", 1) + b"c"
+        )
+        self.assertEqual(answers(given), [
+            "refused 21 at 0", "opened", "refused 22 at 0", "passed", "fails 1", "settled 0",
+            "read", "buffer 000000110100a0000000100000fff00000a5", "refused 13 at 0", "buffer a5a5",
+            "row 00000000000010000000000000000800", "refused 15 at 0",
+            "closed", "refused 21 at 0", "buffer ", "opened", "going 1", "closed",
+        ])
+
+    def test_ends(self) -> None:
+        self.assertEqual(answers(b""), [])
+        for end in (
+            b"x", b"C", b"\n",
+            b"o", b"o\0\0\0", b"o" + string(F)[:-1], b"o" + string(bytes(4_097)),
+            b"j" + struct.pack(">I", 0xFFFF_FFFF), b"s\0\0\0", b"r" + struct.pack(">I", 4_097),
+            b"w" + string(F), b"w" + string(F) + bytes(7),
+        ):
+            self.assertEqual(answers(b"c" + end), ["closed", "script"], end[:9])
+        self.assertEqual(answers(b"cx" + b"c"), ["closed", "script"])
+
+    def test_longest_string(self) -> None:
+        self.assertEqual(answers(b"o" + string(bytes(4_096)) + b"c"), ["refused 1 at 0", "closed"])
+
+
+class CommandLine(unittest.TestCase):
+    def run_command(self, *arguments: str, given: bytes = b"") -> subprocess.CompletedProcess[bytes]:
+        environment = {**os.environ, "PYTHONDONTWRITEBYTECODE": "1"}
+        return subprocess.run([sys.executable, str(REFERENCE), *arguments], input=given, capture_output=True,
+                              env=environment, timeout=60)
+
+    def test_list_and_sample(self) -> None:
+        with tempfile.TemporaryDirectory() as folder:
+            sample = str(Path(folder) / "sample")
+            self.assertEqual(self.run_command("sample", sample, "--closeness", "65536").returncode, 0)
+            self.assertEqual(len(Path(sample).read_bytes()), 1_270)
+            done = self.run_command("list", sample)
+        self.assertEqual((done.returncode, done.stdout.split(b"\n")[0]), (0, b"J 9"))
+        self.assertEqual(self.run_command("list", "-", given=F).stdout, listing(F).encode())
+
+    def test_judge(self) -> None:
+        with tempfile.TemporaryDirectory() as folder:
+            file, spoilt, record = (Path(folder) / name for name in ("file", "spoilt", "record"))
+            file.write_bytes(F)
+            spoilt.write_bytes(damage.put(F, 86, 0, 8))
+            for lent, parts, printed in (
+                (file, (10 << 20, 1 << 20, -(1 << 20)), b"passed\n"),
+                (file, (10 << 20, 1 << 21, -(1 << 20)), b"fails 1\n"),
+                (file, (0, 0), b"refused 4 at 0\n"),
+                (spoilt, (0, 0), b"refused 9 at 86\n"),
+            ):
+                record.write_bytes(build_record(parts))
+                self.assertEqual(self.run_command("judge", str(lent), str(record)).stdout, printed)
+
+    def test_calls_answer_before_the_next_is_read(self) -> None:
+        command = [sys.executable, "-B", str(REFERENCE), "calls", "-"]
+        calls = {b"o" + string(F): b"opened\n", b"s\0\0\0\1": b"settled 0\n", b"c": b"closed\n"}
+        with subprocess.Popen(command, stdin=subprocess.PIPE, stdout=subprocess.PIPE) as process:
+            for call, printed in calls.items():
+                process.stdin.write(call)
+                process.stdin.flush()
+                self.assertEqual(process.stdout.readline(), printed)
+            process.stdin.close()
+            self.assertEqual(process.wait(timeout=60), 0)
+
+    def test_errors(self) -> None:
+        for arguments in (
+            (), ("list",), ("nothing",), ("list", "/no/such/file"), ("sample", "x", "--closeness", "0"),
+            ("vectors", "--seed", "one"), ("random", "--seed", "1", "--count", "0", "--out", "x"),
+        ):
+            done = self.run_command(*arguments)
+            self.assertEqual(done.returncode, 2, arguments)
+            self.assertIn(b"reference", done.stderr)
+            self.assertNotIn(b"Traceback", done.stderr)
+
+
+if __name__ == "__main__":
+    unittest.main()

@@ -1,0 +1,90 @@
+"""The vectors hold what they are for, and the comparison notices what differs."""
+
+import tempfile
+import unittest
+from pathlib import Path
+
+import vectors
+
+
+class Made(unittest.TestCase):
+    @classmethod
+    def setUpClass(cls) -> None:
+        cls.made = vectors.make(vectors.DEFAULT_SEED)
+
+    def listing(self, name: str) -> list[str]:
+        return self.made[f"listing/{name}.out"].decode().splitlines()
+
+    def test_every_refusal_number_is_in_the_script(self) -> None:
+        lines = self.made["calls.out"].decode().splitlines()
+        numbers = {int(line.split()[1]) for line in lines if line.startswith("refused")}
+        # 16 needs a zero on the diagonal, which no file that passes 1 to 10 has.
+        self.assertEqual(numbers, {*range(1, 16), 21, 22, 23, 24})
+        self.assertNotIn("script", lines)
+
+    def test_some_hundred_sessions(self) -> None:
+        self.assertGreater(self.made["calls.out"].count(b"opened\n"), 100)
+
+    def test_listings(self) -> None:
+        self.assertEqual(self.listing("f")[1], "sweeps 0")
+        self.assertEqual(self.listing("spent-at-a-limit"), ["spent 4096"])
+        self.assertEqual(self.listing("tables-256")[0], "J 9")
+        for last in range(1, 16):
+            self.assertIn(self.listing(f"years-{last:02}")[0], (f"J {last}", "spent 4096"))
+
+    def test_lowest_and_highest_places(self) -> None:
+        for number, lowest, highest in ((6, 10, 250), (7, 38, 622), (8, 34, 618), (9, 70, 2_798)):
+            self.assertEqual(self.listing(f"refused-{number:02}-lowest"), [f"refused {number} at {lowest}"])
+            self.assertEqual(self.listing(f"refused-{number:02}-highest"), [f"refused {number} at {highest}"])
+        for number, place in ((1, 0), (2, 4), (3, 5), (4, 0), (5, 6)):
+            for end in ("short", "long"):
+                self.assertEqual(self.listing(f"refused-{number:02}-{end}"), [f"refused {number} at {place}"])
+        self.assertEqual(self.listing("refused-10-short"), ["refused 10 at 78"])
+        self.assertEqual(self.listing("refused-10-long"), ["refused 10 at 750"])
+
+    def test_lengths(self) -> None:
+        for name, length in (("0", 0), ("2806", 2_806), ("2807", 2_807), ("100000", 100_000)):
+            self.assertEqual(len(self.made[f"listing/length-{name}.in"]), length)
+        self.assertEqual(self.listing("length-2806")[0], "J 15")
+        for name in ("0", "2807", "2807-counted", "100000"):
+            self.assertEqual(self.listing(f"length-{name}"), ["refused 1 at 0"])
+
+    def test_small_enough_to_keep(self) -> None:
+        self.assertLess(sum(map(len, self.made.values())), 1_500_000)
+
+    def test_made_again_they_are_the_same(self) -> None:
+        self.assertEqual(vectors.make(vectors.DEFAULT_SEED), self.made)
+        self.assertNotEqual(vectors.make(vectors.DEFAULT_SEED + 1), self.made)
+
+
+class Comparison(unittest.TestCase):
+    MADE = {"listing/a.in": b"1", "listing/a.out": b"2", "calls.in": b"3", "calls.out": b"4"}
+
+    def test_written_vectors_agree(self) -> None:
+        with tempfile.TemporaryDirectory() as name:
+            vectors.write(Path(name), self.MADE)
+            self.assertEqual(vectors.differences(Path(name), self.MADE), [])
+
+    def test_what_differs_is_named(self) -> None:
+        with tempfile.TemporaryDirectory() as name:
+            folder = Path(name)
+            vectors.write(folder, self.MADE)
+            (folder / "calls.out").write_bytes(b"5")
+            (folder / "listing" / "a.in").unlink()
+            (folder / "listing" / "b.in").write_bytes(b"")
+            self.assertEqual(vectors.differences(folder, self.MADE), [
+                f"{folder / 'listing' / 'a.in'}: missing",
+                f"{folder / 'calls.out'}: differs",
+                f"{folder / 'listing' / 'b.in'}: no such vector is made",
+            ])
+
+    def test_random_vectors(self) -> None:
+        made = vectors.make_random(3, 4)
+        listings = {f"listing/{k}.{end}" for k in range(1, 5) for end in ("in", "out")}
+        self.assertEqual(set(made), listings | {"calls.in", "calls.out"})
+        self.assertEqual(made, vectors.make_random(3, 4))
+        self.assertNotIn(b"script", made["calls.out"])
+
+
+if __name__ == "__main__":
+    unittest.main()

@@ -1,0 +1,323 @@
+"""The script of calls: scenes of one or more sessions each; a scene starts and ends with nothing open."""
+
+from collections.abc import Iterable, Iterator
+from dataclasses import replace
+from itertools import pairwise
+from random import Random
+
+import layout
+import paper
+import samples
+import session
+from damage import (
+    SPOIL_FILE, SPOIL_RECORD, drawn_damage, drawn_file_damage, fields_of, pairs_of_spoils, put,
+)
+from layout import LARGEST_YEAR, File, build_file, build_record, record_length
+from scales import TICKS_PER_DOUBLING as T
+from script import LONGEST_STRING
+from vectors_listing import TABLES_CLOSENESSES
+
+LARGEST_NUMBER = (1 << 32) - 1
+
+
+# The calls as bytes.
+
+
+def number(value: int) -> bytes:
+    return value.to_bytes(4, "big")
+
+
+def string(lent: bytes) -> bytes:
+    return number(len(lent)) + lent
+
+
+def call_open(lent: bytes) -> bytes:
+    return b"o" + string(lent)
+
+
+def call_judge(record: bytes) -> bytes:
+    return b"j" + string(record)
+
+
+def call_sweep(sweeps: int) -> bytes:
+    return b"s" + number(sweeps)
+
+
+def call_read(size: int) -> bytes:
+    return b"r" + number(size)
+
+
+def call_row(lent: bytes, channel: int, year: int) -> bytes:
+    return b"w" + string(lent) + number(channel) + number(year)
+
+
+CLOSE = b"c"
+
+
+def script_of_scenes(seed: int, drawn_sessions: int = 60) -> bytes:
+    rng = Random(f"calls {seed}")
+    scenes: list[Iterable[bytes]] = [
+        figures_of_document(),
+        state_refusals(),
+        sweep_numbers(),
+        judge_refusals(),
+        open_refusals(),
+        limits_and_one_past(1),
+        limits_and_one_past(LARGEST_YEAR),
+        *(tables(closeness) for closeness in TABLES_CLOSENESSES),
+        spent(),
+        added_up(samples.many_sweeps(), range(1, 20)),
+        *(halves(offset) for offset in (1, -1)),
+        *(every_row(build_file(samples.drawn_file(rng, last))) for last in (1, 2, 3, 9, LARGEST_YEAR)),
+        row_refusals(),
+        *(settle_and_read(rng, samples.drawn_file(rng, last)) for last in range(1, LARGEST_YEAR + 1)),
+        damaged_files(rng),
+        *(drawn_session(rng) for _ in range(drawn_sessions)),
+    ]
+    return b"".join(call for scene in scenes for call in scene)
+
+
+def script_ends() -> dict[str, bytes]:
+    """Scripts that end in the word `script`, or are empty; by name."""
+    f = build_file(samples.file_f())
+    return {
+        "empty": b"",
+        "unknown-letter": call_open(f) + b"x" + CLOSE,
+        "upper-case-letter": b"O" + string(f),
+        "end-after-letter": call_open(f) + b"s",
+        "end-in-number": call_open(f) + b"s\x00\x00\x00",
+        "end-in-string": call_open(f) + call_judge(build_record((0, 0, 0)))[:-1],
+        "end-in-row": call_row(f, 0, 1)[:-4],
+        "string-4096": call_open(bytes(LONGEST_STRING)) + call_judge(bytes(LONGEST_STRING)),
+        "string-4097": CLOSE + call_open(bytes(LONGEST_STRING + 1)) + CLOSE,
+        "string-largest": b"j" + number(LARGEST_NUMBER),
+        "buffer-4096": call_open(f) + call_read(LONGEST_STRING),
+        "buffer-4097": call_open(f) + call_read(LONGEST_STRING + 1) + CLOSE,
+    }
+
+
+# Scenes.
+
+
+def figures_of_document() -> Iterator[bytes]:
+    """File F: the means that document 01 judges, its two refusals, and its reading."""
+    means = [(10 * T, T, -T), (10 * T + 1, T, -T), (10 * T + 2, T, -T), (10 * T, T + 1, -T)]
+    for closeness in (1, 2):
+        yield call_open(build_file(samples.file_f(closeness)))
+        yield from (call_judge(build_record(mean)) for mean in means)
+        yield call_sweep(1)
+        yield call_read(record_length(1))
+        yield CLOSE
+    f = build_file(samples.file_f())
+    yield call_open(put(f, 86, 0, 8))
+    yield call_open(put(f, 102, 1 << 12, 8))
+
+
+def state_refusals() -> Iterator[bytes]:
+    """21, 22 and 24, alone and where an input check would refuse too."""
+    f, going = build_file(samples.file_f()), build_file(samples.many_sweeps(2))
+    record = build_record((0, 0, 0))
+    for _ in range(2):  # again after a close: a closed session is as empty as a new one
+        yield from (call_judge(record), call_judge(b""), call_sweep(1), call_sweep(0))
+        yield from (call_read(17), call_read(0), CLOSE)
+    yield from (call_open(f), call_open(f), call_open(b""), call_open(SPOIL_FILE[9](f)), call_open(going))
+    yield from (call_sweep(4_096), call_read(17), CLOSE)
+    yield from (call_open(b""), call_judge(record))  # a refused open opens nothing
+    yield from (call_open(going), call_read(record_length(2)), call_read(record_length(2) - 1), call_read(0))
+    yield from (call_sweep(4_096), call_read(record_length(2) - 1), call_read(record_length(2)), CLOSE, CLOSE)
+
+
+def sweep_numbers() -> Iterator[bytes]:
+    """12: before settled (F passes as opened) and before sweeping."""
+    for file in (samples.file_f(), samples.many_sweeps(3)):
+        yield call_open(build_file(file))
+        yield from map(call_sweep, (0, 4_097, 1 << 16, (1 << 16) + 1, 1 << 31, LARGEST_NUMBER))
+        yield from map(call_sweep, (1, 4_096, 0, 1))
+        yield CLOSE
+
+
+def judge_refusals() -> Iterator[bytes]:
+    """1, 2, 4 and 11, alone, two at once, at the first and the last part, and records of other J."""
+    last = 3
+    yield call_open(build_file(samples.many_sweeps(last)))
+    good = build_record((0,) * layout.parts_count(last))
+    yield from (call_judge(spoil(good)) for spoil in SPOIL_RECORD.values())
+    yield from (call_judge(record) for _, _, record in pairs_of_spoils(good, SPOIL_RECORD))
+    yield from (call_judge(good[:cut]) for cut in (0, 1, 4, 5, len(good) - 1))
+    yield from (call_judge(layout.with_length(good[4:cut])) for cut in (4, 5, 9, len(good) - 4))
+    yield from (call_judge(build_record((0,) * layout.parts_count(other))) for other in range(1, 6))
+    for part in (0, layout.parts_count(last) - 1):
+        for value in (-(1 << 26) - 1, -(1 << 26), 1 << 26, (1 << 26) + 1, -(1 << 31), (1 << 31) - 1):
+            yield call_judge(put(good, layout.part_place(part), value, 4))
+    both = put(put(good, layout.part_place(5), 1 << 27, 4), layout.part_place(1), -(1 << 27), 4)
+    yield from (call_judge(both), CLOSE)
+
+
+def open_refusals() -> Iterator[bytes]:
+    """1 to 10 alone and two at once; two fields of one number; 7 before 8 although its place is behind."""
+    f = build_file(samples.many_sweeps(2))
+    yield from (call_open(spoil(f)) for spoil in SPOIL_FILE.values())
+    yield from (call_open(lent) for _, _, lent in pairs_of_spoils(f, SPOIL_FILE))
+    for (_, number_first, first, width, limits), (_, number_last, last, _, _) in pairwise(fields_of(2)):
+        if number_first == number_last:
+            yield call_open(put(put(f, last, limits[1] + 1, width), first, limits[0] - 1, width))
+    yield call_open(put(f, 5, 0, 1))
+    yield from (call_open(put(f, 4, version, 1)) for version in (0, 255))
+    yield from (call_open(put(f, 5, years, 1)) for years in (1, 3, 15, 128, 255))
+    yield from (call_open(f[:cut]) for cut in (0, 4, 9, 10, len(f) - 1))
+    yield from (call_open(layout.with_length(f[4:cut])) for cut in (9, 10, len(f) - 1))
+
+
+def limits_and_one_past(last: int) -> Iterator[bytes]:
+    f = build_file(samples.many_sweeps(last))
+    for _, _, place, width, (low, high) in fields_of(last):
+        for value in (low - 1, low, high, high + 1):
+            yield from (call_open(put(f, place, value, width)), CLOSE)
+
+
+def tables(closeness: int) -> Iterator[bytes]:
+    """Tables 10 and 11 twice: sweep by sweep with judging in between, then at one go."""
+    file = paper.tables_file(closeness)
+    lent, size = build_file(file), record_length(file.last)
+    mean = swept(file, session.MOST_SWEEPS)
+    yield call_open(lent)
+    for sweeps in (1, 1, 2, 3, 4):
+        yield from (call_judge(build_record(file.prior_means)), call_judge(build_record(mean)))
+        yield from (call_sweep(sweeps), call_read(size))
+    yield from (call_judge(record) for record in records_near(mean, (1, -1, closeness, -closeness, 1 << 20)))
+    yield from (CLOSE, call_open(lent), call_sweep(4_096))
+    yield from (call_read(size - 1), call_read(size), call_read(size + 9), CLOSE)
+
+
+def spent() -> Iterator[bytes]:
+    """23, reached in one call and in many; 12 before it; judge and read go on; reopening starts anew."""
+    at_limits = (samples.spent_at_a_limit(closeness, sign) for closeness in (1, 65_536) for sign in (1, -1))
+    for file in (*at_limits, paper.tables_file(1)):
+        lent, record = build_file(file), build_record(file.prior_means)
+        yield from (call_open(lent), *map(call_sweep, (1 << k for k in range(12))), call_read(0))
+        yield from map(call_sweep, (1, 1, 0, 4_097, 4_096))  # to 4,096, then 23, 12, 12, 23
+        yield from (call_judge(record), call_read(4_096), call_open(lent), CLOSE)
+        yield from (call_open(lent), call_sweep(4_095), call_sweep(4_096), call_sweep(4_096), CLOSE)
+        yield from (call_open(lent), call_sweep(4_096), call_sweep(1), CLOSE, call_sweep(1))
+
+
+def added_up(file: File, counts: Iterable[int]) -> Iterator[bytes]:
+    lent, size = build_file(file), record_length(file.last)
+    record = build_record(swept(file, session.MOST_SWEEPS))
+    yield call_open(lent)
+    for count in counts:
+        yield from (call_sweep(count), call_judge(record))
+    yield from (call_read(size), CLOSE, call_open(lent), call_sweep(4_096), call_read(size), CLOSE)
+
+
+def halves(offset: int) -> Iterator[bytes]:
+    yield from (call_open(build_file(samples.half_tick(offset))), call_sweep(1), call_sweep(4_096))
+    yield from (call_read(record_length(1)), CLOSE)
+
+
+def every_row(lent: bytes) -> Iterator[bytes]:
+    last = lent[5]
+    yield from (call_row(lent, channel, year) for channel in (0, 1) for year in range(last + 2))
+
+
+def row_refusals() -> Iterator[bytes]:
+    """14 and 15 alone, both, far past with low bytes inside; 1 to 10 before them; a session beside."""
+    f = build_file(samples.many_sweeps(2))
+    yield call_open(f)
+    past = (255, 256, 257, 1 << 16, 1 << 31, LARGEST_NUMBER)
+    yield from (call_row(f, channel, 0) for channel in (2, *past))
+    yield from (call_row(f, 0, year) for year in (3, *past))
+    yield from (call_row(f, channel, 3) for channel in (2, *past))
+    for spoil in SPOIL_FILE.values():
+        yield from (call_row(spoil(f), 0, 0), call_row(spoil(f), 2, 0), call_row(spoil(f), 1, 3))
+    yield from (call_row(b"", 0, 0), call_sweep(4_096), CLOSE, call_row(f, 1, 2))
+
+
+def settle_and_read(rng: Random, file: File) -> Iterator[bytes]:
+    """One J: some sweeps, judging near the mean, all sweeps, reading into buffers of every kind."""
+    size = record_length(file.last)
+    mean = swept(file, session.MOST_SWEEPS)
+    yield from (call_open(build_file(file)), call_sweep(1), call_judge(build_record(swept(file, 1))))
+    yield call_sweep(2)
+    offsets = (0, 1, -1, file.closeness, -2 * file.closeness)
+    yield from (call_judge(record) for record in records_near(mean, offsets))
+    yield from (call_sweep(rng.randint(1, 4_096)), call_sweep(4_096))
+    yield from map(call_read, (0, size - 1, size, size + 1, size + rng.randint(2, 40)))
+    wider = replace(file, closeness=65_536)
+    yield from (CLOSE, call_open(build_file(wider)), call_sweep(4_096), call_read(size), CLOSE)
+
+
+def damaged_files(rng: Random) -> Iterator[bytes]:
+    for _ in range(60):
+        lent = drawn_file_damage(rng, build_file(samples.drawn_file(rng, rng.randint(1, 3))))
+        yield from (call_row(lent, 0, 0), call_open(lent), call_sweep(2), CLOSE)
+    yield from (call_open(rng.randbytes(rng.randint(0, 300))) for _ in range(10))
+
+
+# Drawn sessions.
+
+
+def drawn_session(rng: Random) -> Iterator[bytes]:
+    """Some dozens of calls, mostly on one file of few years, now and then on a longer one."""
+    file = samples.drawn_file(rng, rng.choice((1, 1, 2, 2, 3, 4, 6, rng.randint(1, LARGEST_YEAR))))
+    mean = swept(file, session.MOST_SWEEPS)
+    if rng.randrange(4):
+        yield call_open(build_file(file))
+    for _ in range(rng.randint(8, 30)):
+        yield _drawn_call(rng, file, mean)
+    yield CLOSE
+
+
+def _drawn_call(rng: Random, file: File, mean: tuple[int, ...]) -> bytes:
+    lent, size = build_file(file), record_length(file.last)
+    match rng.choices("ojsrwcnd", (2, 12, 12, 8, 2, 1, 2, 3))[0]:
+        case "o":
+            return call_open(lent)
+        case "j":
+            return call_judge(_drawn_record(rng, file, mean))
+        case "s":
+            few, any_number = rng.randint(1, 50), rng.getrandbits(32)
+            return call_sweep(rng.choice((1, 1, 1, 2, 3, few, 4_096, 0, 4_097, any_number)))
+        case "r":
+            return call_read(rng.choice((size - 1, size, size, size + 1, rng.randint(0, 150))))
+        case "w":
+            channel = rng.choice((0, 0, 1, 1, 2, rng.getrandbits(32)))
+            return call_row(lent, channel, rng.randint(0, file.last + 1))
+        case "c":
+            return CLOSE
+        case "n":  # a new start
+            return CLOSE + call_open(lent)
+    # A damaged file, and the good one behind it: refused if the damage did no harm.
+    return CLOSE + call_open(drawn_file_damage(rng, lent)) + call_open(lent)
+
+
+def _drawn_record(rng: Random, file: File, mean: tuple[int, ...]) -> bytes:
+    match rng.randrange(6):
+        case 0:
+            return build_record(mean)
+        case 1:
+            return build_record(swept(file, rng.randint(1, 3)))
+        case 2:
+            return build_record([rng.randint(-(1 << 26), 1 << 26) for _ in mean])
+        case 3:
+            return drawn_damage(rng, build_record(mean))
+        case _:
+            return rng.choice(records_near(mean, (rng.choice((1, -1, 2, file.closeness, -file.closeness)),)))
+
+
+def swept(file: File, sweeps: int) -> tuple[int, ...]:
+    """The mean held after so many sweeps, or after fewer if it passes."""
+    _, state = session.open_file(session.EMPTY, build_file(file))
+    _, state = session.sweep(state, sweeps)
+    return state.mean
+
+
+def records_near(mean: tuple[int, ...], offsets: Iterable[int]) -> list[bytes]:
+    """Records with one part moved: for each offset the first, a middle and the last part."""
+    records = []
+    for offset in offsets:
+        for part in (0, len(mean) // 2, len(mean) - 1):
+            moved = list(mean)
+            moved[part] += offset
+            records.append(build_record(moved))
+    return records
