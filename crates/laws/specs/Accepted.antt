@@ -1,0 +1,111 @@
+-- What an accepted file is known to hold, field by field.
+use Prim.Native.Nat.{ℕ, zero, suc, _+_, _*_, _-_, _/_, _^_, _≤_, _<_, zero-le}
+use mathlib.Core.Path.{_≡_, refl, sym, ap, _∙_, subst}
+use mathlib.Core.Logic.{_≢_, _⊎_, inl, inr}
+use mathlib.Core.Bool.{Bool, true, false, not, _&&_, false≢true}
+use native.Mathlib.Nat.{eq-or-lt-of-le}
+use native.Mathlib.Omega.{arith}
+use lib.IntN.{ℤ, natAbs}
+use lib.ListN.{length}
+use mir.Facts.{and-yes}
+use lib.Dec.{T, leb, eqb, leb→le, eqb→eq}
+use Rattle.integers.specs.Sum.{total}
+use Rattle.definitions.specs.Words.{within}
+use Rattle.definitions.specs.Layout.{Bytes, lastYear, closeness, parts, cells, rowStart, varianceOf, priorMean, priorVariance, amount, paid, incurred, fileLength, paidAt, varianceAt, priorVarianceAt, priorMeanAt, amountAt}
+use Rattle.definitions.specs.Refusals.{Check, clear, refuses, unless, _then_, fields, check1, check2, check3, check4, check5, check6, check7, check8, check9, check10, fileCheck, goodVariance, goodPriorVariance, goodPart, goodAmount, yearLimit, closenessLimit, amountLimit, partLimit}
+use Rattle.definitions.specs.Observations.{chainOf}
+use Rattle.definitions.specs.Matrix.{matrix}
+use Rattle.definitions.specs.Machine.{check16, openCheck, isClear, accepted}
+
+-- ---- clear checks
+
+pub record Both (a b : Check) : Type 0 where
+  pub first : isClear a ≡ true
+  pub second : isClear b ≡ true
+
+pub then-clear : {a b : Check} → isClear (a then b) ≡ true → Both a b
+then-clear {a = clear} h = record { first = refl; second = h }
+then-clear {a = refuses number place} h = absurd (false≢true h)
+
+pub unless-clear : (t : Bool) (number place : ℕ) → isClear (unless t number place) ≡ true → T t
+unless-clear true number place h = tt
+unless-clear false number place h = absurd (false≢true h)
+
+pub fields-clear : (good : ℕ → Bool) (number : ℕ) (placeOf : ℕ → ℕ) (i n : ℕ) → isClear (fields good number placeOf i n) ≡ true
+    → (k : ℕ) → i ≤ k → k < i + n → T (good k)
+unfolding fields
+fields-clear good number placeOf i zero h k from to = absurd (omega arith)
+fields-clear good number placeOf i (suc n) h k from to =
+    let both = then-clear {a = unless (good i) number (placeOf i)} h in
+    here-or-later (eq-or-lt-of-le from) (unless-clear (good i) number (placeOf i) (both .first))
+    (λ later. fields-clear good number placeOf (suc i) n (both .second) k later (omega arith))
+  where
+    here-or-later : (i ≡ k) ⊎ (i < k) → T (good i) → (i < k → T (good k)) → T (good k)
+    here-or-later (inl e) here later = subst (λ n. T (good n)) e here
+    here-or-later (inr l) here later = later l
+
+-- ---- the file
+
+pub record Within (lo hi v : ℕ) : Type 0 where
+  pub from : lo ≤ v
+  pub to : v ≤ hi
+
+within-yes : (lo hi v : ℕ) → T (within lo hi v) → Within lo hi v
+within-yes lo hi v t =
+    let both = and-yes (leb lo v) (leb v hi) t in record { from = leb→le lo v (both .0); to = leb→le v hi (both .1) }
+
+pub record AcceptedFile (f : Bytes) : Type 0 where
+  pub years : Within 1 yearLimit (lastYear f)
+  pub size : length f ≡ fileLength (lastYear f)
+  pub close : Within 1 closenessLimit (closeness f)
+  pub variances : (k : ℕ) → k < parts (lastYear f) → Within (2 ^ 18) (2 ^ 40) (varianceOf f k)
+  pub prior-variances : (k : ℕ) → k < parts (lastYear f) → Within (2 ^ 18) (2 ^ 46) (priorVariance f k)
+  pub prior-means : (k : ℕ) → k < parts (lastYear f) → natAbs (priorMean f k) ≤ partLimit
+  pub amounts : (c : ℕ) → c < 2 * cells (lastYear f) → Within 1 amountLimit (amount f c)
+  pub last-amounts : paid f 0 (lastYear f) ≡ incurred f 0 (lastYear f)
+
+pub file-clear : (f : Bytes) → isClear (fileCheck f) ≡ true → AcceptedFile f
+unfolding fileCheck check1 check2 check3 check4 check5 check6 check7 check8 check9 check10
+file-clear f h =
+    let c1 = then-clear {a = check1 f} h in
+    let c2 = then-clear {a = check2 f} (c1 .second) in
+    let c3 = then-clear {a = check3 f} (c2 .second) in
+    let c4 = then-clear {a = check4 f} (c3 .second) in
+    let c5 = then-clear {a = check5 f} (c4 .second) in
+    let c6 = then-clear {a = check6 f} (c5 .second) in
+    let c7 = then-clear {a = check7 f} (c6 .second) in
+    let c8 = then-clear {a = check8 f} (c7 .second) in
+    let c9 = then-clear {a = check9 f} (c8 .second) in
+    record {
+      years = within-yes 1 yearLimit (lastYear f) (unless-clear (within 1 yearLimit (lastYear f)) 3 5 (c3 .first));
+      size = eqb→eq (length f) (fileLength (lastYear f)) (unless-clear (eqb (length f) (fileLength (lastYear f))) 4 0 (c4 .first));
+      close = within-yes 1 closenessLimit (closeness f) (unless-clear (within 1 closenessLimit (closeness f)) 5 6 (c5 .first));
+      variances = λ k below. within-yes (2 ^ 18) (2 ^ 40) (varianceOf f k)
+          (fields-clear (λ k. goodVariance (varianceOf f k)) 6 varianceAt 0 (parts (lastYear f)) (c6 .first) k zero-le (omega arith));
+      prior-variances = λ k below. within-yes (2 ^ 18) (2 ^ 46) (priorVariance f k)
+          (fields-clear (λ k. goodPriorVariance (priorVariance f k)) 7 (priorVarianceAt (lastYear f)) 0 (parts (lastYear f)) (c7 .first) k zero-le (omega arith));
+      prior-means = λ k below. leb→le (natAbs (priorMean f k)) partLimit
+          (fields-clear (λ k. goodPart (priorMean f k)) 8 (priorMeanAt (lastYear f)) 0 (parts (lastYear f)) (c8 .first) k zero-le (omega arith));
+      amounts = λ c below. within-yes 1 amountLimit (amount f c)
+          (fields-clear (λ c. goodAmount (amount f c)) 9 (amountAt (lastYear f)) 0 (2 * cells (lastYear f)) (c9 .first) c zero-le (omega arith));
+      last-amounts = eqb→eq (paid f 0 (lastYear f)) (incurred f 0 (lastYear f)) (unless-clear (eqb (paid f 0 (lastYear f)) (incurred f 0 (lastYear f))) 10 (paidAt (lastYear f) 0 (lastYear f)) (c9 .second));
+    }
+
+pub accepted-file : (f : Bytes) → accepted f ≡ true → AcceptedFile f
+accepted-file f h = file-clear f (then-clear {a = fileCheck f} h .first)
+
+-- ---- cells: year i's column j is a cell of its block where i + j ≤ J
+
+pub rowStart-is : (J i : ℕ) → i ≤ J + 1 → 2 * rowStart J i + i * i ≡ i * (2 * J + 3)
+unfolding rowStart total
+rowStart-is J zero h = omega arith
+rowStart-is J (suc i) h = omega (arith, rowStart-is J i (omega arith))
+
+pub cell-below : (J i j : ℕ) → i + j ≤ J → rowStart J i + j < cells J
+cell-below J i j h =
+    let d : ℕ = J - (i + j) in
+    let whole : J ≡ i + j + d = omega arith in
+    let start : 2 * rowStart J i + i * i ≡ i * (2 * (i + j + d) + 3) = subst (λ n. 2 * rowStart J i + i * i ≡ i * (2 * n + 3)) whole (rowStart-is J i (omega arith)) in
+    let enough : 2 * (rowStart J i + j + 1) ≤ (J + 1) * (J + 2) =
+    subst (λ n. 2 * (rowStart J i + j + 1) ≤ (n + 1) * (n + 2)) (sym whole) (omega arith) in
+    omega arith

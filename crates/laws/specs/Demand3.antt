@@ -1,0 +1,44 @@
+-- Demand 3, whole: what a passed mean is worth, for every accepted file and whoever proposed the mean.
+use Prim.Native.Nat.{ℕ, _+_, _*_, _≤_, _<_}
+use mathlib.Core.Path.{_≡_, sym, ap, ap₂, _∙_, subst}
+use mathlib.Core.Bool.{true}
+use native.Mathlib.Nat.{le-trans}
+use native.Mathlib.Omega.{arith}
+use lib.IntN.{ℤ, pos, natAbs, _+ℤ_, _*ℤ_}
+use Rattle.definitions.specs.Layout.{Bytes, lastYear, closeness, parts}
+use Rattle.definitions.specs.Loss.{Vector, loss, lossTimes}
+use Rattle.definitions.specs.Observations.{chainOf}
+use Rattle.definitions.specs.Matrix.{own, residueTimes, figuresOf, passes}
+use Rattle.definitions.specs.Machine.{accepted}
+use Rattle.definitions.specs.Guarantee.{Guarantee, Demand3, RoundingPasses, ZeroResidue}
+use Rattle.laws.specs.Accepted.{AcceptedFile, accepted-file}
+use Rattle.laws.specs.FileBounds.{file-owned}
+use Rattle.laws.specs.FormGuarantee as Form
+use Rattle.laws.specs.Judged.{SmallResidues, small-of-passes, passes-of-small}
+use Rattle.laws.specs.LossForm.{loss-is-form}
+use Rattle.laws.specs.PrecisionMatrix.{lossForm, residue-is-form}
+use Rattle.laws.specs.Quadratic.{formResidue}
+use Rattle.laws.specs.Rounding.{rounding-passes}
+
+module _ (f : Bytes) (h : AcceptedFile f) (μ : Vector) where
+  small-form : SmallResidues f μ → (k : ℕ) → k < parts (lastYear f) → natAbs (formResidue (lossForm (chainOf f)) (pos 1) μ k) ≤ closeness f * own (chainOf f) k
+  small-form small k below = subst (λ z. natAbs z ≤ closeness f * own (chainOf f) k) (residue-is-form (chainOf f) 1 μ k below) (small k below)
+
+  zero-form : (m : ℕ) (u : Vector) → ZeroResidue f m u → (k : ℕ) → k < parts (lastYear f) → formResidue (lossForm (chainOf f)) (pos m) u k ≡ pos 0
+  zero-form m u none k below = sym (residue-is-form (chainOf f) m u k below) ∙ none k below
+
+  pub guaranteed : SmallResidues f μ → Guarantee f μ
+  guaranteed small = record {
+    nearly-least = λ m u _. rw (loss-is-form (chainOf f) 1 μ, loss-is-form (chainOf f) m u) (Form.nearly-least (lossForm (chainOf f)) (closeness f) μ (small-form small) m u);
+    near = λ m u _ none. Form.near (lossForm (chainOf f)) (closeness f) μ (small-form small) m u (zero-form m u none);
+    strictly-least = λ none m u _ another. rw (loss-is-form (chainOf f) 1 μ, loss-is-form (chainOf f) m u)
+        (Form.strictly-least (lossForm (chainOf f)) (closeness f) μ (file-owned f h .owned) (zero-form 1 μ none) m u (another .0) (another .1) (another .2));
+  }
+
+pub demand3 : Demand3
+demand3 = record {
+  guarantee = λ f yes μ passed. guaranteed f (accepted-file f yes) μ (small-of-passes f μ passed);
+  rounding = λ f yes close μ _ m u some none half.
+      let h = accepted-file f yes in
+      passes-of-small f μ (rounding-passes (chainOf f) (file-owned f h) (h .years .to) (closeness f) (le-trans (omega arith) close) m u μ some none half);
+}

@@ -1,0 +1,116 @@
+-- The sizes of an accepted file's figures: everything that the desk computes from it fits 64 bits.
+use Prim.Native.Nat.{ℕ, zero, suc, _+_, _*_, _-_, _^_, _≤_, _<_}
+use mathlib.Core.Path.{_≡_, refl, sym, ap, _∙_, subst}
+use native.Mathlib.Nat.{le-trans, le-of-eq, le-refl, mul-le-mul, mul-le-mul-left, mul-le-mul-right}
+use native.Mathlib.Omega.{arith}
+use lib.IntN.{ℤ, pos, natAbs, _+ℤ_, _-ℤ_, _*ℤ_}
+use Rattle.integers.specs.Linear.{linear}
+use Rattle.integers.specs.Size.{natAbs-+, natAbs-*-≤}
+use Rattle.integers.specs.Sum.{sum}
+use Rattle.integers.specs.Total.{total-bound, sizes, sum-size}
+use Rattle.definitions.specs.Layout.{Bytes, lastYear, closeness, parts, psiIndex, cells, rowStart, priorMean, priorVariance, paid, incurred}
+use Rattle.definitions.specs.Logarithm.{logarithm, squarings, ticksPerDoubling}
+use Rattle.definitions.specs.Weight.{weight}
+use Rattle.definitions.specs.Refusals.{amountLimit, partLimit}
+use Rattle.definitions.specs.Loss.{Vector}
+use Rattle.definitions.specs.Observations.{Chain, chainOf, σ², τ², paidStep, incurredStep, lastRatio}
+use Rattle.definitions.specs.Matrix.{Part, Φ, Ψ, partOf, ownOf, own, matrix, rightHand, residueTimes}
+use Rattle.laws.specs.Accepted.{AcceptedFile, Within, cell-below}
+use Rattle.laws.specs.LogarithmBound.{logIn-at-most}
+use Rattle.laws.specs.PrecisionMatrix.{firstsOf}
+use Rattle.laws.specs.Sizes.{Limits, row-limit, entry-limit, target-limit, residue-limit}
+use Rattle.laws.specs.FileBounds.{observedLimit, ownLimit, shareLimit, p-to, q-to, g-to, prior-to, by-own}
+
+-- ---- logarithms of amounts
+
+-- 2^40 is the limit of an amount, and 40 doublings are fewer than 2^26 ticks
+pub logarithm-limit : (a : ℕ) → Within 1 amountLimit a → logarithm a ≤ observedLimit
+unfolding logarithm
+logarithm-limit a range = omega (arith, logIn-at-most squarings a 40 (omega arith) (range .from) (range .to) (omega arith))
+
+-- the difference of two numbers of one limit is within the limit
+difference-limit : (a b m : ℕ) → a ≤ m → b ≤ m → natAbs (pos a -ℤ pos b) ≤ m
+difference-limit a b m = simp linear (omega arith)
+
+module _ (f : Bytes) (h : AcceptedFile f) where
+  pub paid-within : (i j : ℕ) → i + j ≤ lastYear f → Within 1 amountLimit (paid f i j)
+  paid-within i j below = h .amounts (rowStart (lastYear f) i + j) (omega (arith, cell-below (lastYear f) i j below))
+
+  pub incurred-within : (i j : ℕ) → i + j ≤ lastYear f → Within 1 amountLimit (incurred f i j)
+  incurred-within i j below = h .amounts (cells (lastYear f) + (rowStart (lastYear f) i + j)) (omega (arith, cell-below (lastYear f) i j below))
+
+  -- ---- observations
+
+  pub x-limit : (i j : ℕ) → i + j ≤ lastYear f → natAbs (paidStep f i j) ≤ observedLimit
+  unfolding paidStep
+  x-limit i zero below = logarithm-limit (paid f i 0) (paid-within i 0 below)
+  x-limit i (suc j) below =
+      difference-limit (logarithm (paid f i (suc j))) (logarithm (paid f i j)) observedLimit
+      (logarithm-limit (paid f i (suc j)) (paid-within i (suc j) below)) (logarithm-limit (paid f i j) (paid-within i j (omega arith)))
+
+  pub z-limit : (i j : ℕ) → i + j < lastYear f → natAbs (incurredStep f i j) ≤ observedLimit
+  unfolding incurredStep
+  z-limit i j below =
+      difference-limit (logarithm (incurred f i (j + 1))) (logarithm (incurred f i j)) observedLimit
+      (logarithm-limit (incurred f i (j + 1)) (incurred-within i (j + 1) (omega arith))) (logarithm-limit (incurred f i j) (incurred-within i j (omega arith)))
+
+  pub y-limit : (i : ℕ) → i ≤ lastYear f → natAbs (lastRatio f i) ≤ observedLimit
+  unfolding lastRatio
+  y-limit i below =
+      difference-limit (logarithm (incurred f i (lastYear f - i))) (logarithm (paid f i (lastYear f - i))) observedLimit
+      (logarithm-limit (incurred f i (lastYear f - i)) (incurred-within i (lastYear f - i) (omega arith)))
+      (logarithm-limit (paid f i (lastYear f - i)) (paid-within i (lastYear f - i) (omega arith)))
+
+  -- ---- a part's own observations
+
+  -- n observations of weight w, and a prior of weight s
+  column-limit : (w n s : ℕ) (o : ℕ → ℤ) (prior : ℤ) → natAbs prior ≤ observedLimit → ((i : ℕ) → i < n → natAbs (o i) ≤ observedLimit)
+      → natAbs (pos s *ℤ prior +ℤ pos w *ℤ sum n o) ≤ (s + n * w) * observedLimit
+  column-limit w n s o prior p x =
+      let sums : natAbs (sum n o) ≤ n * observedLimit = le-trans (sum-size n o) (total-bound n observedLimit x) in
+      le-trans (natAbs-+ (pos s *ℤ prior) (pos w *ℤ sum n o))
+      (omega (arith, natAbs-*-≤ (pos s) prior (le-refl s) p, natAbs-*-≤ (pos w) (sum n o) (le-refl w) sums))
+
+  pub file-limits : Limits (chainOf f) ownLimit shareLimit observedLimit
+  file-limits = record {
+    own-to = by-own f h (λ D a. D ≤ ownLimit)
+        (λ j below. omega (arith, h .years .to, prior-to f h j (omega arith), mul-le-mul (count-p j) (p-to f h j below)))
+        (λ j below. omega (arith, h .years .to, prior-to f h (psiIndex (lastYear f) j) (omega arith), mul-le-mul (count-q j) (q-to f h j below)));
+    shares-to = g-to f h;
+    firsts-to = by-own f h (λ D a. natAbs (firstsOf (chainOf f) a) ≤ D * observedLimit)
+        (λ j below. column-limit (weight (σ² f j)) (lastYear f - j + 1) (weight (priorVariance f j)) (λ i. paidStep f i j) (priorMean f j)
+        (h .prior-means j (omega arith)) (λ i i-below. x-limit i j (omega arith)))
+        (λ j below. column-limit (weight (τ² f j)) (lastYear f - j) (weight (priorVariance f (psiIndex (lastYear f) j))) (λ i. incurredStep f i j) (priorMean f (psiIndex (lastYear f) j))
+        (h .prior-means (psiIndex (lastYear f) j) (omega arith)) (λ i i-below. z-limit i j (omega arith)));
+    ratios-to = λ d below. y-limit (lastYear f - d) (omega arith);
+  }
+    where
+      count-p : (j : ℕ) → lastYear f - j + 1 ≤ 16
+      count-p j = omega (arith, h .years .to)
+
+      count-q : (j : ℕ) → lastYear f - j ≤ 15
+      count-q j = omega (arith, h .years .to)
+
+  -- ---- the sizes, as numbers
+
+  pub own-fits : (k : ℕ) → k < parts (lastYear f) → closeness f * own (chainOf f) k ≤ 2 ^ 49
+  own-fits k below = omega (arith, mul-le-mul (h .close .to) (file-limits .own-to k below))
+
+  years-limit : lastYear f * (lastYear f + 1) ≤ 240
+  years-limit = omega (arith, mul-le-mul (h .years .to) (next (h .years .to)))
+    where
+      next : lastYear f ≤ 15 → lastYear f + 1 ≤ 16
+      next h = omega arith
+
+  -- the sizes of a row of the matrix, and so each entry
+  pub row-fits : (k : ℕ) → k < parts (lastYear f) → sizes (parts (lastYear f)) (matrix (chainOf f) k) ≤ 274 * 2 ^ 27
+  row-fits k below = omega (arith, row-limit (chainOf f) file-limits k below, mul-le-mul-right shareLimit years-limit)
+
+  pub right-hand-fits : (k : ℕ) → k < parts (lastYear f) → natAbs (rightHand (chainOf f) k) ≤ 49 * 2 ^ 53
+  right-hand-fits k below = omega (arith, target-limit (chainOf f) file-limits k below, mul-le-mul-right (shareLimit * observedLimit) (h .years .to))
+
+  -- twice this and a diagonal entry are below 2^63
+  pub residue-fits : (μ : Vector) → ((l : ℕ) → l < parts (lastYear f) → natAbs (μ l) ≤ partLimit) → (k : ℕ) → k < parts (lastYear f)
+      → natAbs (residueTimes (chainOf f) 1 μ k) ≤ 323 * 2 ^ 53
+  residue-fits μ small k below =
+      omega (arith, residue-limit (chainOf f) file-limits partLimit μ small k below, mul-le-mul-right (shareLimit * partLimit) years-limit, mul-le-mul-right (shareLimit * observedLimit) (h .years .to))

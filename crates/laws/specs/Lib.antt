@@ -1,0 +1,37 @@
+-- What follows from the definitions: why the promises hold. To search, not to read.
+--   LogarithmBound    2^L ≤ a^T < 2^(L+2), for any number of squarings; a logarithm is at most that of the limit
+--   WeightLaws        the weight is positive, falls as the variance grows, and where it lies
+--   Accepted          what an accepted file holds, field by field
+--   Ranks             parts by index; the matrix by ranks and signs
+--   Quadratic         a loss of quadratics and combinations: matrix, right-hand side, residue, expansion around a mean
+--   PrecisionMatrix   document 01's matrix, right-hand side and residue are those of such a loss
+--   LossForm          and document 01's loss is that loss
+--   Theorem34         residue by the matrix = residue observation by observation; the expansion of the loss, in document 01's terms
+--   FormGuarantee     nearly least, near, strictly least, for such a loss
+--   Rounding          a mean within half a tick of a zero-residue vector has small residues
+--   Judged            passed exactly if every |residue| ≤ e·D
+--   Demand3           DEMAND 3, whole, for every accepted file
+--   Diagonal          the matrix is symmetric, its diagonal positive; number 16 never refuses
+--   Sizes             the sizes of entries, rows, right-hand side and residues, over limits that are left open
+--   FileBounds        the weights of an accepted file, and that each g is at most the weights whose variances are in its sum
+--   FileLimits        the sizes of an accepted file's figures, as numbers
+--   StepLaws          one step of a sweep: one part changes, stays inside, residues follow
+--   SweepLaws         no step and no sweep raises the loss; a swept mean stays inside the limits
+pub mod LogarithmBound
+pub mod WeightLaws
+pub mod Accepted
+pub mod Ranks
+pub mod Quadratic
+pub mod PrecisionMatrix
+pub mod LossForm
+pub mod Theorem34
+pub mod FormGuarantee
+pub mod Rounding
+pub mod Judged
+pub mod Demand3
+pub mod Diagonal
+pub mod Sizes
+pub mod FileBounds
+pub mod FileLimits
+pub mod StepLaws
+pub mod SweepLaws

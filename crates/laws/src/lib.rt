@@ -1,0 +1,1 @@
+// What follows from the definitions. There is no code here: see specs/.

@@ -1,0 +1,70 @@
+"""Edits of one crate that another crate's proofs must refuse.
+
+The kit's must-fail edits are tried on one crate alone. An edit of `definitions` that no figure of the joint table shows is
+refused by a law, so it is tried here: the edited crate must still be proved, and the crate named in `refused-by:` must not.
+Each file of tests/edits/ has a comment, then the lines `crate:`, `file:`, `old:`, `new:` and `refused-by:`.
+"""
+
+import os
+import re
+import shutil
+import subprocess
+import sys
+import tempfile
+from concurrent.futures import ThreadPoolExecutor
+from pathlib import Path
+
+ROOT = Path(__file__).resolve().parent.parent
+EDITS = ROOT / "tests" / "edits"
+
+
+def dependencies() -> dict[str, list[str]]:
+    """Every crate with what it depends on, as crates.txt has it."""
+    lines = (line.partition("#")[0] for line in (ROOT / "crates.txt").read_text().splitlines())
+    pairs = (line.split(":") for line in lines if line.strip())
+    return {name.strip(): needed.split() for name, needed in pairs}
+
+
+def needed_by(crate: str, crates: dict[str, list[str]]) -> list[str]:
+    """The crate behind everything of this repository that it depends on."""
+    before = [other for name in crates[crate] if name in crates for other in needed_by(name, crates)]
+    return list(dict.fromkeys(before)) + [crate]
+
+
+def read_edit(path: Path) -> dict[str, str]:
+    pairs = (line.partition(": ") for line in path.read_text().splitlines() if not line.startswith("#"))
+    return {key: value for key, _, value in pairs}
+
+
+def complaint(path: Path) -> str | None:
+    """What is wrong with an edit: it cannot be made, or the proofs do not refuse it as they must."""
+    edit, crates = read_edit(path), dependencies()
+    wanted = needed_by(edit["refused-by"], crates)
+    with tempfile.TemporaryDirectory() as folder:
+        for name in wanted:
+            shutil.copytree(ROOT / "crates" / name, Path(folder) / "crates" / name, ignore=shutil.ignore_patterns("must-fail"))
+        Path(folder, "crates.txt").write_text("".join(f"{name}: {' '.join(crates[name])}\n" for name in wanted))
+        edited = Path(folder) / "crates" / edit["crate"] / edit["file"]
+        text = edited.read_text()
+        if text.count(edit["old"]) != 1:
+            return f"its old text is {text.count(edit['old'])} times in {edit['file']}"
+        edited.write_text(text.replace(edit["old"], edit["new"]))
+        checked = subprocess.run(["rt", "check"], cwd=folder, capture_output=True, text=True, env={**os.environ, "RT_JOBS": "1"})
+    said = checked.stdout + checked.stderr
+    refused = re.findall(r"^rt: (\w+) NOT PROVED", said, re.MULTILINE)
+    return None if refused == [edit["refused-by"]] else f"not proved: {refused or 'none'}, and not just {edit['refused-by']}"
+
+
+def main() -> int:
+    paths = sorted(EDITS.glob("*.edit"))
+    with ThreadPoolExecutor(2) as pool:
+        complaints = dict(zip(paths, pool.map(complaint, paths)))
+    for path, said in complaints.items():
+        print(f"{path.stem}: {said or 'refused, as it must be'}")
+    failed = sum(said is not None for said in complaints.values())
+    print(f"edits across crates: {len(paths) - failed} refused, {failed} wrong")
+    return 1 if failed or not paths else 0
+
+
+if __name__ == "__main__":
+    sys.exit(main())
