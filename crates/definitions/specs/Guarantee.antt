@@ -1,6 +1,6 @@
 -- Demand 3: what a passed mean is worth. A rational vector is any u over one m ≥ 1, with no limits; of u only the parts 0..2J
 -- count. Everything is stated in whole numbers: losses times m², residues times m, distances times m² and times the sum of D.
-use Prim.Native.Nat.{ℕ, _+_, _*_, _^_, _≤_, _<_}
+use Prim.Native.Nat.{ℕ, _*_, _≤_, _<_}
 use mathlib.Core.Path.{_≡_}
 use mathlib.Core.Logic.{_≢_}
 use mathlib.Core.Bool.{true}

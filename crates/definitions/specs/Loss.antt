@@ -1,5 +1,5 @@
 -- Document 01, "The loss of a vector (Φ, Ψ)". A vector is its parts, Φ_0..Φ_J and then Ψ_0..Ψ_(J−1).
-use Prim.Native.Nat.{ℕ, suc, _+_, _*_, _-_}
+use Prim.Native.Nat.{ℕ, _+_, _-_}
 use lib.IntN.{ℤ, pos, _+ℤ_, _-ℤ_, _*ℤ_}
 use Rattle.integers.specs.Sum.{sum}
 use Rattle.definitions.specs.Layout.{psiIndex}

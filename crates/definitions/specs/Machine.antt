@@ -1,6 +1,6 @@
 -- Document 01, "The session", with the refusals of the input and of the state in their orders: for every state and call the answer,
 -- and the state and the lent buffer afterwards. A refused call leaves both as they were.
-use Prim.Native.Nat.{ℕ, _+_, _*_}
+use Prim.Native.Nat.{ℕ}
 use mathlib.Core.Bool.{Bool, true, false, not, cond}
 use mathlib.Core.List.{List, [], _∷_, _++_}
 use lib.IntN.{ℤ, natAbs}

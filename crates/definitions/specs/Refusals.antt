@@ -1,7 +1,7 @@
 -- Document 01, "Turned back by the input": the checks in number order, fields in file order within a number. Each check answers
 -- `clear`, or number and place; the place is the field's first byte, and 0 where the document gives none.
-use Prim.Native.Nat.{ℕ, zero, suc, _+_, _*_, _^_}
-use mathlib.Core.Bool.{Bool, true, false, not, cond, _&&_}
+use Prim.Native.Nat.{ℕ, zero, suc, _*_, _^_}
+use mathlib.Core.Bool.{Bool, true, false, _&&_}
 use lib.ListN.{length}
 use lib.IntN.{ℤ, natAbs}
 use lib.Dec.{leb, eqb}

@@ -1,11 +1,11 @@
 -- What an accepted file is known to hold, field by field.
-use Prim.Native.Nat.{ℕ, zero, suc, _+_, _*_, _-_, _/_, _^_, _≤_, _<_, zero-le}
-use mathlib.Core.Path.{_≡_, refl, sym, ap, _∙_, subst}
-use mathlib.Core.Logic.{_≢_, _⊎_, inl, inr}
-use mathlib.Core.Bool.{Bool, true, false, not, _&&_, false≢true}
+use Prim.Native.Nat.{ℕ, zero, suc, _+_, _*_, _-_, _^_, _≤_, _<_, zero-le}
+use mathlib.Core.Path.{_≡_, refl, sym, subst}
+use mathlib.Core.Logic.{_⊎_, inl, inr}
+use mathlib.Core.Bool.{Bool, true, false, false≢true}
 use native.Mathlib.Nat.{eq-or-lt-of-le}
 use native.Mathlib.Omega.{arith}
-use lib.IntN.{ℤ, natAbs}
+use lib.IntN.{natAbs}
 use lib.ListN.{length}
 use mir.Facts.{and-yes}
 use lib.Dec.{T, leb, eqb, leb→le, eqb→eq}
@@ -13,9 +13,7 @@ use Rattle.integers.specs.Sum.{total}
 use Rattle.definitions.specs.Words.{within}
 use Rattle.definitions.specs.Layout.{Bytes, lastYear, closeness, parts, cells, rowStart, varianceOf, priorMean, priorVariance, amount, paid, incurred, fileLength, paidAt, varianceAt, priorVarianceAt, priorMeanAt, amountAt}
 use Rattle.definitions.specs.Refusals.{Check, clear, refuses, unless, _then_, fields, check1, check2, check3, check4, check5, check6, check7, check8, check9, check10, fileCheck, goodVariance, goodPriorVariance, goodPart, goodAmount, yearLimit, closenessLimit, amountLimit, partLimit}
-use Rattle.definitions.specs.Observations.{chainOf}
-use Rattle.definitions.specs.Matrix.{matrix}
-use Rattle.definitions.specs.Machine.{check16, openCheck, isClear, accepted}
+use Rattle.definitions.specs.Machine.{isClear, accepted}
 
 -- ---- clear checks
 

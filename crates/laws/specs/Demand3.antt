@@ -1,16 +1,14 @@
 -- Demand 3, whole: what a passed mean is worth, for every accepted file and whoever proposed the mean.
-use Prim.Native.Nat.{ℕ, _+_, _*_, _≤_, _<_}
-use mathlib.Core.Path.{_≡_, sym, ap, ap₂, _∙_, subst}
-use mathlib.Core.Bool.{true}
+use Prim.Native.Nat.{ℕ, _*_, _≤_, _<_}
+use mathlib.Core.Path.{_≡_, sym, _∙_, subst}
 use native.Mathlib.Nat.{le-trans}
 use native.Mathlib.Omega.{arith}
-use lib.IntN.{ℤ, pos, natAbs, _+ℤ_, _*ℤ_}
+use lib.IntN.{pos, natAbs}
 use Rattle.definitions.specs.Layout.{Bytes, lastYear, closeness, parts}
-use Rattle.definitions.specs.Loss.{Vector, loss, lossTimes}
+use Rattle.definitions.specs.Loss.{Vector}
 use Rattle.definitions.specs.Observations.{chainOf}
-use Rattle.definitions.specs.Matrix.{own, residueTimes, figuresOf, passes}
-use Rattle.definitions.specs.Machine.{accepted}
-use Rattle.definitions.specs.Guarantee.{Guarantee, Demand3, RoundingPasses, ZeroResidue}
+use Rattle.definitions.specs.Matrix.{own}
+use Rattle.definitions.specs.Guarantee.{Guarantee, Demand3, ZeroResidue}
 use Rattle.laws.specs.Accepted.{AcceptedFile, accepted-file}
 use Rattle.laws.specs.FileBounds.{file-owned}
 use Rattle.laws.specs.FormGuarantee as Form

@@ -1,19 +1,19 @@
 -- The precision matrix is symmetric, and each diagonal entry of a file that the checks 1 to 10 let through is positive: every part has an
 -- observation of its own, so that no prior is needed for it. Number 16 therefore never refuses.
-use Prim.Native.Nat.{ℕ, zero, suc, _+_, _*_, _≤_, _<_, zero-le, min}
+use Prim.Native.Nat.{ℕ, zero, suc, _+_, _*_, _≤_, _<_, min}
 use mathlib.Core.Path.{_≡_, refl, sym, ap, ap₂, _∙_, subst}
 use mathlib.Core.Bool.{Bool, true, false, not}
 use native.Mathlib.Omega.{arith}
 use lib.Dec.{T, eqb, eqb→eq, eqb-refl, not-T}
-use lib.IntN.{ℤ, pos, natAbs, _+ℤ_, _*ℤ_, *ℤ-comm}
+use lib.IntN.{pos, natAbs, _+ℤ_, _*ℤ_, *ℤ-comm}
 use Rattle.integers.specs.Sum.{total}
 use Rattle.integers.specs.SumRange.{only, only-yes}
 use Rattle.integers.specs.Total.{pos-total}
 use Rattle.definitions.specs.Layout.{Bytes, lastYear, parts}
-use Rattle.definitions.specs.Refusals.{Check, clear, refuses, unless, _then_, fields, fileCheck}
+use Rattle.definitions.specs.Refusals.{clear, unless, _then_, fields, fileCheck}
 use Rattle.definitions.specs.Observations.{Chain, chainOf}
 use Rattle.definitions.specs.Matrix.{Part, Φ, Ψ, partOf, own, matrix, sharedBy}
-use Rattle.definitions.specs.Machine.{isClear, check16, openCheck, accepted}
+use Rattle.definitions.specs.Machine.{isClear, check16}
 use Rattle.laws.specs.Accepted.{file-clear}
 use Rattle.laws.specs.FileBounds.{file-owned}
 use Rattle.laws.specs.Ranks.{rankOf, signOf, rankEntry, matrix-by-ranks, same-test}

@@ -1,25 +1,17 @@
 -- The weights and observations of an accepted file: where they lie, and that every g is at most the weights whose variances are in its sum.
-use Prim.Native.Nat.{ℕ, zero, suc, _+_, _*_, _-_, _^_, _≤_, _<_}
-use mathlib.Core.Path.{_≡_, refl, sym, ap, _∙_, subst}
-use native.Mathlib.Nat.{le-trans, le-of-eq, le-refl, mul-le-mul, mul-le-mul-left, mul-le-mul-right}
+use Prim.Native.Nat.{ℕ, _+_, _*_, _-_, _^_, _≤_, _<_}
+use mathlib.Core.Path.{_≡_, sym, ap, subst}
+use native.Mathlib.Nat.{le-trans, mul-le-mul-right}
 use native.Mathlib.Omega.{arith}
-use lib.IntN.{ℤ, pos, natAbs, _+ℤ_, _-ℤ_, _*ℤ_}
-use Rattle.integers.specs.Linear.{linear, zarith}
-use Rattle.integers.specs.Size.{natAbs-+, natAbs-*-≤}
-use Rattle.integers.specs.Sum.{sum, total}
-use Rattle.integers.specs.Total.{total-term, total-bound, total-grows, sum-size}
-use Rattle.definitions.specs.Layout.{Bytes, lastYear, parts, psiIndex, cells, rowStart, varianceOf, priorMean, priorVariance, paid, incurred}
-use Rattle.definitions.specs.Logarithm.{logarithm, squarings}
+use Rattle.integers.specs.Total.{total-term}
+use Rattle.definitions.specs.Layout.{Bytes, lastYear, parts, psiIndex, priorVariance}
 use Rattle.definitions.specs.Weight.{weight}
-use Rattle.definitions.specs.Refusals.{amountLimit, yearLimit}
-use Rattle.definitions.specs.Observations.{Chain, chainOf, σ², τ², ratioVariance, paidStep, incurredStep, lastRatio}
+use Rattle.definitions.specs.Observations.{Chain, chainOf, σ², τ², ratioVariance}
 use Rattle.definitions.specs.Matrix.{Part, Φ, Ψ, partOf, ownOf, own}
-use Rattle.laws.specs.Accepted.{AcceptedFile, Within, cell-below}
-use Rattle.laws.specs.LogarithmBound.{logIn-at-most}
+use Rattle.laws.specs.Accepted.{AcceptedFile, Within}
 use Rattle.laws.specs.WeightLaws.{weight-falls, weight-positive, weight-at-most, weight-of-two-at-most}
 use Rattle.laws.specs.Ranks.{rankOf, partOf-phi, partOf-psi, by-part}
-use Rattle.laws.specs.PrecisionMatrix.{firstsOf}
-use Rattle.laws.specs.Sizes.{rank, Limits}
+use Rattle.laws.specs.Sizes.{rank}
 
 -- what demand 3 asks of weights: each part has an own weight, and each g that it shares is at most that
 pub record Owned (c : Chain) : Type 0 where

@@ -1,24 +1,23 @@
 -- The sizes of an accepted file's figures: everything that the desk computes from it fits 64 bits.
 use Prim.Native.Nat.{ℕ, zero, suc, _+_, _*_, _-_, _^_, _≤_, _<_}
-use mathlib.Core.Path.{_≡_, refl, sym, ap, _∙_, subst}
-use native.Mathlib.Nat.{le-trans, le-of-eq, le-refl, mul-le-mul, mul-le-mul-left, mul-le-mul-right}
+use native.Mathlib.Nat.{le-trans, lt-of-le-of-lt, le-refl, mul-le-mul, mul-le-mul-right}
 use native.Mathlib.Omega.{arith}
 use lib.IntN.{ℤ, pos, natAbs, _+ℤ_, _-ℤ_, _*ℤ_}
 use Rattle.integers.specs.Linear.{linear}
-use Rattle.integers.specs.Size.{natAbs-+, natAbs-*-≤}
+use Rattle.integers.specs.Size.{natAbs-+, natAbs-*, natAbs-*-≤, natAbs--}
 use Rattle.integers.specs.Sum.{sum}
-use Rattle.integers.specs.Total.{total-bound, sizes, sum-size}
+use Rattle.integers.specs.Total.{total-bound, total-term, sizes, sum-size}
 use Rattle.definitions.specs.Layout.{Bytes, lastYear, closeness, parts, psiIndex, cells, rowStart, priorMean, priorVariance, paid, incurred}
-use Rattle.definitions.specs.Logarithm.{logarithm, squarings, ticksPerDoubling}
+use Rattle.definitions.specs.Logarithm.{logarithm, squarings}
 use Rattle.definitions.specs.Weight.{weight}
 use Rattle.definitions.specs.Refusals.{amountLimit, partLimit}
 use Rattle.definitions.specs.Loss.{Vector}
-use Rattle.definitions.specs.Observations.{Chain, chainOf, σ², τ², paidStep, incurredStep, lastRatio}
-use Rattle.definitions.specs.Matrix.{Part, Φ, Ψ, partOf, ownOf, own, matrix, rightHand, residueTimes}
+use Rattle.definitions.specs.Observations.{chainOf, σ², τ², paidStep, incurredStep, lastRatio}
+use Rattle.definitions.specs.Matrix.{own, matrix, rightHand, residueTimes}
 use Rattle.laws.specs.Accepted.{AcceptedFile, Within, cell-below}
 use Rattle.laws.specs.LogarithmBound.{logIn-at-most}
 use Rattle.laws.specs.PrecisionMatrix.{firstsOf}
-use Rattle.laws.specs.Sizes.{Limits, row-limit, entry-limit, target-limit, residue-limit}
+use Rattle.laws.specs.Sizes.{Limits, row-limit, target-limit, residue-limit}
 use Rattle.laws.specs.FileBounds.{observedLimit, ownLimit, shareLimit, p-to, q-to, g-to, prior-to, by-own}
 
 -- ---- logarithms of amounts
@@ -114,3 +113,23 @@ module _ (f : Bytes) (h : AcceptedFile f) where
       → natAbs (residueTimes (chainOf f) 1 μ k) ≤ 323 * 2 ^ 53
   residue-fits μ small k below =
       omega (arith, residue-limit (chainOf f) file-limits partLimit μ small k below, mul-le-mul-right (shareLimit * partLimit) years-limit, mul-le-mul-right (shareLimit * observedLimit) (h .years .to))
+
+  -- what a step of part k divides
+  pub numerator-fits : (μ : Vector) → ((l : ℕ) → l < parts (lastYear f) → natAbs (μ l) ≤ partLimit) → (k : ℕ) → k < parts (lastYear f)
+      → natAbs (matrix (chainOf f) k k -ℤ pos 2 *ℤ residueTimes (chainOf f) 1 μ k) < 2 ^ 63
+  numerator-fits μ small k below =
+      let A : ℤ = matrix (chainOf f) k k in
+      let r : ℤ = residueTimes (chainOf f) 1 μ k in
+      lt-of-le-of-lt (natAbs-- A (pos 2 *ℤ r))
+      (omega (arith, natAbs-* (pos 2) r, residue-fits μ small k below, row-fits k below, total-term (parts (lastYear f)) k (λ l. natAbs (matrix (chainOf f) k l)) below))
+
+  -- the observations of a column, added up
+  pub x-sum-fits : (j : ℕ) → j ≤ lastYear f → natAbs (sum (lastYear f - j + 1) (λ i. paidStep f i j)) ≤ 2 ^ 30
+  x-sum-fits j below =
+      le-trans (sum-size (lastYear f - j + 1) (λ i. paidStep f i j))
+      (omega (arith, h .years .to, total-bound (lastYear f - j + 1) observedLimit (λ i i-below. x-limit i j (omega arith))))
+
+  pub z-sum-fits : (j : ℕ) → j < lastYear f → natAbs (sum (lastYear f - j) (λ i. incurredStep f i j)) ≤ 2 ^ 30
+  z-sum-fits j below =
+      le-trans (sum-size (lastYear f - j) (λ i. incurredStep f i j))
+      (omega (arith, h .years .to, total-bound (lastYear f - j) observedLimit (λ i i-below. z-limit i j (omega arith))))

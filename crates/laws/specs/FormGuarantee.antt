@@ -1,16 +1,16 @@
 -- What a mean of small residues is worth for a loss of `Quadratic`: nearly least, near, and strictly least where its residues are 0.
-use Prim.Native.Nat.{ℕ, zero, suc, _+_, _*_, _≤_, _<_}
-use mathlib.Core.Path.{_≡_, refl, sym, ap, _∙_}
+use Prim.Native.Nat.{ℕ, _*_, _≤_, _<_}
+use mathlib.Core.Path.{_≡_, sym, ap, _∙_}
 use mathlib.Core.Logic.{_≢_}
-use mathlib.Core.List.{List, [], _∷_}
+use mathlib.Core.List.{[], _∷_}
 use native.Mathlib.Omega.{arith}
-use lib.IntN.{ℤ, pos, negℤ, natAbs, _+ℤ_, _-ℤ_, _*ℤ_, zero-*ℤ}
+use lib.IntN.{ℤ, pos, negℤ, natAbs, _+ℤ_, _*ℤ_, zero-*ℤ}
 use lib.Signed.{_≤ℤ_, _<ℤ_}
-use Rattle.integers.specs.Certificate.{excess, excess-<, nonneg, mixed-neg-≤}
+use Rattle.integers.specs.Certificate.{mixed-neg-≤}
 use Rattle.integers.specs.Linear.{linear, zarith}
-use Rattle.integers.specs.Order.{square-nonneg, square-positive, pos-nonneg, pos-<, *ℤ-nonneg, *ℤ-positive, ≤ℤ-trans, ≤ℤ-of-≡, +ℤ-positive}
+use Rattle.integers.specs.Order.{square-nonneg, square-positive, pos-nonneg, pos-<, *ℤ-nonneg, *ℤ-positive, ≤ℤ-trans, ≤ℤ-of-≡}
 use Rattle.integers.specs.Ring.{≡ℤ-is-zero}
-use Rattle.integers.specs.Solver.{ring, _⊞_, _⊟_, _⊠_, ⊖_, num, _≐_}
+use Rattle.integers.specs.Solver.{ring, _⊞_, _⊠_, _≐_}
 use Rattle.integers.specs.Sum.{sum, total, sum-cong, sum-+, sum-neg, sum-scale, sum-scale-right, sum-zeros}
 use Rattle.integers.specs.SumOrder.{sum-mono, sum-nonneg, sum-positive}
 use Rattle.integers.specs.Total.{pos-total}

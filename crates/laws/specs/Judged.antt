@@ -2,20 +2,20 @@
 use Prim.Native.Nat.{ℕ, zero, suc, _+_, _*_, _≤_, _<_, zero-le}
 use mathlib.Core.Path.{_≡_, refl, sym, ap, ap₂, _∙_, subst}
 use mathlib.Core.Logic.{_⊎_, inl, inr}
-use mathlib.Core.List.{List, [], _∷_}
-use mathlib.Core.Bool.{Bool, true, false, not, cond, false≢true}
+use mathlib.Core.List.{[]}
+use mathlib.Core.Bool.{Bool, true, false, cond, false≢true}
 use native.Mathlib.Nat.{zero-add, add-suc, suc-add, le-of-suc-le-suc, not-suc-le-zero, eq-or-lt-of-le}
 use native.Mathlib.Omega.{arith}
 use lib.Dec.{T, leb, leb→le, le→leb}
-use lib.IntN.{ℤ, pos, natAbs, _-ℤ_, _*ℤ_}
+use lib.IntN.{pos, natAbs, _-ℤ_, _*ℤ_}
 use lib.ListN.{getD, length}
 use Rattle.integers.specs.Ring.{*ℤ-idl}
-use Rattle.integers.specs.Sum.{sum, sum-cong}
+use Rattle.integers.specs.Sum.{sum-cong}
 use Rattle.definitions.specs.Words.{tabFrom, part}
 use Rattle.definitions.specs.Layout.{Bytes, lastYear, closeness, parts}
 use Rattle.definitions.specs.Loss.{Vector}
 use Rattle.definitions.specs.Observations.{chainOf}
-use Rattle.definitions.specs.Matrix.{own, matrix, rightHand, residueTimes, Figures, figuresOf, entry, residue, partPasses, judgeFrom, Judgement, passed, fails, isPassed, judgement, passes}
+use Rattle.definitions.specs.Matrix.{own, matrix, rightHand, residueTimes, Figures, figuresOf, residue, partPasses, judgeFrom, fails, isPassed, passes}
 
 -- ---- a tabulated list
 

@@ -1,5 +1,6 @@
 -- What follows from the definitions: why the promises hold. To search, not to read.
 --   LogarithmBound    2^L ≤ a^T < 2^(L+2), for any number of squarings; a logarithm is at most that of the limit
+--   LogarithmOrder    the larger the amount, the larger its logarithm
 --   WeightLaws        the weight is positive, falls as the variance grows, and where it lies
 --   Accepted          what an accepted file holds, field by field
 --   Ranks             parts by index; the matrix by ranks and signs
@@ -18,6 +19,7 @@
 --   StepLaws          one step of a sweep: one part changes, stays inside, residues follow
 --   SweepLaws         no step and no sweep raises the loss; a swept mean stays inside the limits
 pub mod LogarithmBound
+pub mod LogarithmOrder
 pub mod WeightLaws
 pub mod Accepted
 pub mod Ranks

@@ -9,7 +9,7 @@ use native.Mathlib.Nat.{mul-zero, mul-suc, le-trans, le-of-eq, pow-le-pow-left, 
 use native.Mathlib.Omega.{arith, by-contra}
 use lib.Dec.{T, leb, leb→le, nleb→lt, lit<}
 use lib.Pow.{pow-add, pow-pos, pow-mono, pow-lt}
-use lib.Count.{leadingZeros, leading-top}
+use lib.Count.{leading-top}
 use Rattle.definitions.specs.Logarithm.{highestBit, startFrom, nextBit, nextY, bitsOf, logIn, squarings, logarithm}
 
 abbrev N : ℕ

@@ -1,7 +1,7 @@
 -- Document 01's loss, observation by observation, is the loss of its `Form`.
-use Prim.Native.Nat.{ℕ, zero, suc, _+_, _*_, _-_, _≤_, _<_}
-use mathlib.Core.Path.{_≡_, refl, sym, ap, ap₂, _∙_, subst}
-use mathlib.Core.List.{List, [], _∷_}
+use Prim.Native.Nat.{ℕ, suc, _+_, _*_, _-_, _<_}
+use mathlib.Core.Path.{_≡_, sym, ap, ap₂, _∙_}
+use mathlib.Core.List.{[], _∷_}
 use mathlib.Core.Bool.{Bool, true, false}
 use native.Mathlib.Numerals.{add-one}
 use native.Mathlib.Omega.{arith}
@@ -14,8 +14,8 @@ use Rattle.integers.specs.SumRange.{only, sum-split, sum-reverse, sum-from}
 use Rattle.definitions.specs.Layout.{parts, psiIndex}
 use Rattle.definitions.specs.Loss.{Vector, weighted, phi, psi, ratio, lossTimes}
 use Rattle.definitions.specs.Observations.{Chain}
-use Rattle.definitions.specs.Matrix.{Part, Φ, Ψ, partOf, ownOf, own}
-use Rattle.laws.specs.Quadratic.{Form, combined, ownTerm, combinedTerm, formLoss}
+use Rattle.definitions.specs.Matrix.{Part, Φ, Ψ, ownOf, own}
+use Rattle.laws.specs.Quadratic.{combined, ownTerm, combinedTerm, formLoss}
 use Rattle.laws.specs.Ranks.{rankOf, signOf, partOf-phi, partOf-psi}
 use Rattle.laws.specs.PrecisionMatrix.{lossForm, firstsOf, secondsOf}
 

@@ -1,22 +1,22 @@
 -- Theorem 3.4 of source document 000 on rounded weights: document 01's loss is a `Form`, and its matrix, right-hand side and residue are that
 -- form's, so that they are exactly the coefficients of the loss.
-use Prim.Native.Nat.{ℕ, zero, suc, _+_, _*_, _-_, _≤_, _<_, min}
-use mathlib.Core.Path.{_≡_, refl, sym, ap, ap₂, _∙_, subst}
-use mathlib.Core.List.{List, [], _∷_}
-use mathlib.Core.Bool.{Bool, true, false, not, cond}
+use Prim.Native.Nat.{ℕ, _+_, _-_, _≤_, _<_, min}
+use mathlib.Core.Path.{_≡_, sym, ap, ap₂, _∙_}
+use mathlib.Core.List.{[], _∷_}
+use mathlib.Core.Bool.{Bool, true, false}
 use native.Mathlib.Omega.{arith}
-use lib.Dec.{T, leb, ltb, eqb, ltb→lt, lt→ltb}
-use lib.IntN.{ℤ, pos, negsuc, negℤ, _+ℤ_, _-ℤ_, _*ℤ_}
+use lib.Dec.{T, ltb, eqb, ltb→lt, lt→ltb}
+use lib.IntN.{ℤ, pos, _+ℤ_, _-ℤ_, _*ℤ_}
 use Rattle.integers.specs.Ring.{*ℤ-idl}
 use Rattle.integers.specs.Solver.{ring, _⊞_, _⊟_, _⊠_, ⊖_, num, _≐_}
-use Rattle.integers.specs.Sum.{sum, sum-cong, sum-+, sum--, sum-neg, sum-scale, sum-const}
-use Rattle.integers.specs.SumRange.{only, sum-split, sum-reverse, sum-below, sum-from}
-use Rattle.definitions.specs.Layout.{parts, psiIndex}
-use Rattle.definitions.specs.Loss.{Vector, weighted, phi, psi, ratio, lossTimes}
+use Rattle.integers.specs.Sum.{sum, sum-cong, sum-scale}
+use Rattle.integers.specs.SumRange.{only, sum-reverse, sum-below}
+use Rattle.definitions.specs.Layout.{parts}
+use Rattle.definitions.specs.Loss.{Vector}
 use Rattle.definitions.specs.Observations.{Chain}
-use Rattle.definitions.specs.Matrix.{Part, Φ, Ψ, partOf, ownOf, own, matrix, sharedBy, ratiosOfLast, targetOf, rightHand, residueTimes}
-use Rattle.laws.specs.Quadratic.{Form, combined, ownTerm, missed, combinedTerm, formLoss, formMatrix, formTarget, formResidue, felt, residue-by-observation}
-use Rattle.laws.specs.Ranks.{rankOf, signOf, rankEntry, partOf-phi, partOf-psi, by-part, rank-below, same-part, matrix-by-ranks, same-test}
+use Rattle.definitions.specs.Matrix.{Part, Φ, Ψ, partOf, own, matrix, sharedBy, ratiosOfLast, targetOf, rightHand, residueTimes}
+use Rattle.laws.specs.Quadratic.{Form, formMatrix, formTarget, formResidue, residue-by-observation}
+use Rattle.laws.specs.Ranks.{rankOf, signOf, rank-below, matrix-by-ranks}
 
 module _ (c : Chain) where
   abbrev pub firstsOf : Part → ℤ

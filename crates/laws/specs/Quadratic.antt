@@ -1,16 +1,14 @@
 -- A loss that is made of a quadratic of each part and of weighted squares of combinations of the parts, with its matrix, its
 -- right-hand side and its expansion around a mean. The loss of document 01 is one (`PrecisionMatrix`); nothing here counts observations, so
 -- that a loss with fewer of them, or with priors of no weight, is one too.
-use Prim.Native.Nat.{ℕ, zero, suc, _+_, _*_, _≤_, _<_}
-use mathlib.Core.Path.{_≡_, refl, sym, ap, ap₂, _∙_}
-use mathlib.Core.Logic.{_≢_}
-use mathlib.Core.List.{List, [], _∷_}
-use mathlib.Core.Bool.{Bool, true, false, not}
-use lib.Dec.{T, eqb, eqb→eq, eqb-refl, not-T}
-use lib.IntN.{ℤ, pos, negℤ, _+ℤ_, _-ℤ_, _*ℤ_, zero-*ℤ}
+use Prim.Native.Nat.{ℕ, _<_}
+use mathlib.Core.Path.{_≡_, sym, ap, ap₂, _∙_}
+use mathlib.Core.List.{[], _∷_}
+use lib.Dec.{eqb, eqb→eq, eqb-refl, not-T}
+use lib.IntN.{ℤ, pos, _+ℤ_, _-ℤ_, _*ℤ_, zero-*ℤ}
 use Rattle.integers.specs.Ring.{+ℤ-*ℤ}
-use Rattle.integers.specs.Solver.{ring, _⊞_, _⊟_, _⊠_, ⊖_, num, _≐_}
-use Rattle.integers.specs.Sum.{sum, sum-cong, sum-+, sum--, sum-scale, sum-scale-right, sum-swap, sum-zeros}
+use Rattle.integers.specs.Solver.{ring, _⊞_, _⊟_, _⊠_, num, _≐_}
+use Rattle.integers.specs.Sum.{sum, sum-cong, sum-+, sum-scale, sum-scale-right, sum-swap, sum-zeros, sum--}
 use Rattle.integers.specs.SumRange.{only, only-yes, only-no, sum-one}
 use Rattle.definitions.specs.Loss.{Vector}
 

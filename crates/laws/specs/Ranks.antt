@@ -1,22 +1,21 @@
 -- Parts by index. A part has a rank, Φ_j the rank j and Ψ_j the rank j + 1, and a sign, + for Φ and − for Ψ: it takes part in the ratio of
 -- development year d exactly if d is below its rank. Off the diagonal the matrix is the product of two parts' signs times the sum of the
 -- first g, as many as the smaller of their ranks.
-use Prim.Native.Nat.{ℕ, zero, suc, _+_, _*_, _-_, _≤_, _<_, min}
-use mathlib.Core.Path.{_≡_, refl, sym, ap, ap₂, _∙_, subst}
-use mathlib.Core.List.{List, [], _∷_}
-use mathlib.Core.Bool.{Bool, true, false, not, cond}
+use Prim.Native.Nat.{ℕ, _+_, _-_, _≤_, _<_, min}
+use mathlib.Core.Path.{_≡_, refl, sym, ap, _∙_, subst}
+use mathlib.Core.List.{[], _∷_}
+use mathlib.Core.Bool.{Bool, true, false, cond}
 use native.Mathlib.Nat.{lt-of-not-le}
 use native.Mathlib.Decide.{decLe}
 use native.Mathlib.Omega.{arith}
-use lib.Dec.{T, leb, ltb, eqb, leb→le, le→leb, ltb→lt, lt→ltb, nleb→lt, eqb→eq, eqb-refl, not-T}
-use lib.IntN.{ℤ, pos, negsuc, negℤ, _+ℤ_, _-ℤ_, _*ℤ_}
+use lib.Dec.{T, leb, eqb, leb→le, le→leb, eqb→eq, eqb-refl}
+use lib.IntN.{ℤ, pos, negsuc, negℤ, _+ℤ_, _*ℤ_}
 use Rattle.integers.specs.Ring.{*ℤ-idl}
-use Rattle.integers.specs.Solver.{ring, _⊞_, _⊟_, _⊠_, ⊖_, num, _≐_}
-use Rattle.integers.specs.Sum.{sum, sum-cong, sum-scale}
-use Rattle.integers.specs.SumRange.{only, sum-below}
+use Rattle.integers.specs.Solver.{ring, _⊞_, _⊠_, ⊖_, num, _≐_}
+use Rattle.integers.specs.SumRange.{only}
 use Rattle.definitions.specs.Layout.{parts, psiIndex}
 use Rattle.definitions.specs.Observations.{Chain}
-use Rattle.definitions.specs.Matrix.{Part, Φ, Ψ, partOf, ownOf, own, between, matrix, onDiagonal, sharedBy, targetOf, rightHand}
+use Rattle.definitions.specs.Matrix.{Part, Φ, Ψ, partOf, ownOf, own, between, matrix, sharedBy}
 
 abbrev pub rankOf : Part → ℕ
 rankOf (Φ j) = j

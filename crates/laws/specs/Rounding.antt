@@ -1,20 +1,20 @@
 -- A whole mean within half a tick of a vector of zero residue has small residues: twice a residue is at most the sizes of its row, and those are
 -- at most 241 own weights.
-use Prim.Native.Nat.{ℕ, zero, suc, _+_, _*_, _≤_, _<_}
-use mathlib.Core.Path.{_≡_, refl, sym, ap, ap₂, _∙_}
-use mathlib.Core.List.{List, [], _∷_}
-use native.Mathlib.Nat.{le-trans, le-of-eq, le-refl, mul-le-mul, mul-le-mul-left, mul-le-mul-right, le-of-mul-le-mul-left}
+use Prim.Native.Nat.{ℕ, _+_, _*_, _≤_, _<_}
+use mathlib.Core.Path.{_≡_, ap, _∙_}
+use mathlib.Core.List.{[], _∷_}
+use native.Mathlib.Nat.{mul-le-mul, mul-le-mul-left, mul-le-mul-right, le-of-mul-le-mul-left}
 use native.Mathlib.Omega.{arith}
-use lib.IntN.{ℤ, pos, negℤ, natAbs, _+ℤ_, _-ℤ_, _*ℤ_}
+use lib.IntN.{ℤ, pos, negℤ, natAbs, _-ℤ_, _*ℤ_}
 use Rattle.integers.specs.Size.{natAbs-*, natAbs-neg}
-use Rattle.integers.specs.Solver.{ring, _⊞_, _⊟_, _⊠_, ⊖_, num, _≐_}
-use Rattle.integers.specs.Sum.{sum, total, sum-cong, sum--, sum-scale}
+use Rattle.integers.specs.Solver.{ring, _⊟_, _⊠_, ⊖_, num, _≐_}
+use Rattle.integers.specs.Sum.{sum, total, sum-cong, sum-scale, sum--}
 use Rattle.integers.specs.Total.{total-mono, total-scale-right, sizes, sum-size}
 use Rattle.definitions.specs.Layout.{parts}
 use Rattle.definitions.specs.Loss.{Vector}
 use Rattle.definitions.specs.Observations.{Chain}
 use Rattle.definitions.specs.Matrix.{own, matrix, rightHand, residueTimes}
-use Rattle.laws.specs.Sizes.{rank, row-size}
+use Rattle.laws.specs.Sizes.{row-size}
 use Rattle.laws.specs.FileBounds.{Owned}
 
 module _ (c : Chain) (m : ℕ) (u μ : Vector) (k : ℕ) where

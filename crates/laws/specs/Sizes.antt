@@ -1,23 +1,20 @@
 -- The sizes that code in 64 bits needs, over limits of the weights and observations that are left open: own weights at most W, the g at most
 -- G, observations at most X in size, a mean's parts at most M.
 use Prim.Native.Nat.{ℕ, zero, suc, _+_, _*_, _-_, _≤_, _<_, min}
-use mathlib.Core.Path.{_≡_, refl, sym, ap, ap₂, _∙_, subst}
-use mathlib.Core.Logic.{_≢_}
-use mathlib.Core.List.{List, [], _∷_}
-use mathlib.Core.Bool.{Bool, true, false, not}
-use native.Mathlib.Nat.{le-refl, le-trans, le-of-eq, mul-le-mul, mul-le-mul-left, mul-le-mul-right, add-le-add}
+use mathlib.Core.Path.{_≡_, refl, sym, ap, ap₂, _∙_}
+use native.Mathlib.Nat.{le-refl, le-trans, le-of-eq, mul-le-mul-right}
 use native.Mathlib.Omega.{arith}
-use lib.Dec.{T, eqb, eqb→eq, eqb-refl, not-T}
-use lib.IntN.{ℤ, pos, negsuc, natAbs, _+ℤ_, _-ℤ_, _*ℤ_}
+use lib.Dec.{eqb, eqb→eq, eqb-refl, not-T}
+use lib.IntN.{ℤ, pos, negsuc, natAbs, _*ℤ_}
 use Rattle.integers.specs.Ring.{*ℤ-idl}
-use Rattle.integers.specs.Size.{natAbs-+, natAbs--, natAbs-*, natAbs-*-≤, natAbs-neg}
+use Rattle.integers.specs.Size.{natAbs-+, natAbs-*, natAbs-*-≤, natAbs--}
 use Rattle.integers.specs.Sum.{sum, total}
 use Rattle.integers.specs.SumRange.{only, only-yes, only-no, sum-one}
 use Rattle.integers.specs.Total.{total-cong, total-mono, total-bound, total-+, total-scale-right, total-next, total-split, total-term, pos-total, sizes, sum-size}
-use Rattle.definitions.specs.Layout.{parts, psiIndex}
+use Rattle.definitions.specs.Layout.{parts}
 use Rattle.definitions.specs.Loss.{Vector}
 use Rattle.definitions.specs.Observations.{Chain}
-use Rattle.definitions.specs.Matrix.{Part, Φ, Ψ, partOf, ownOf, own, matrix, sharedBy, ratiosOfLast, rightHand, residueTimes}
+use Rattle.definitions.specs.Matrix.{Part, Φ, Ψ, partOf, own, matrix, ratiosOfLast, rightHand, residueTimes}
 use Rattle.laws.specs.Ranks.{rankOf, signOf, partOf-phi, partOf-psi, rankEntry, rank-below, matrix-by-ranks}
 use Rattle.laws.specs.PrecisionMatrix.{firstsOf, ratios-by-development, target-by-rank}
 

@@ -1,18 +1,18 @@
 -- One step of a sweep: it changes one part, which stays inside the limits; the new residues are the old plus the part's column times the change;
 -- and the loss does not grow.
-use Prim.Native.Nat.{ℕ, zero, suc, _+_, _*_, _≤_, _<_}
-use mathlib.Core.Path.{_≡_, refl, sym, ap, ap₂, _∙_, subst}
+use Prim.Native.Nat.{ℕ, _*_, _≤_, _<_}
+use mathlib.Core.Path.{_≡_, sym, ap, _∙_, subst}
 use mathlib.Core.Logic.{_≢_, _⊎_, inl, inr}
 use mathlib.Core.List.{List, [], _∷_}
 use mathlib.Core.Bool.{Bool, true, false, not, cond}
 use native.Mathlib.Decide.{ℕ-discrete}
 use native.Mathlib.Omega.{arith}
 use lib.Dec.{T}
-use lib.IntN.{ℤ, pos, negℤ, natAbs, _+ℤ_, _-ℤ_, _*ℤ_, *ℤ-zero}
-use lib.ListN.{getD, set, length, length-set}
+use lib.IntN.{ℤ, pos, negℤ, natAbs, _+ℤ_, _-ℤ_, _*ℤ_}
+use lib.ListN.{length, length-set}
 use lib.Seq.{getD-set-same, getD-set-other}
 use lib.Signed.{_≤ℤ_, _<ℤ_, ≤ℤ-refl, shrZ, ltZ, ltZ-yes, ltZ-no}
-use Rattle.integers.specs.Floor.{floorDiv, floor-≤, floor-<}
+use Rattle.integers.specs.Floor.{floor-≤, floor-<}
 use Rattle.integers.specs.Linear.{linear, zarith}
 use Rattle.integers.specs.Certificate.{excess}
 use Rattle.integers.specs.Order.{*ℤ-mono, *ℤ-nonneg, negℤ-anti, nonneg-pos, pos-≤, ≤ℤ-or-<ℤ, ≤ℤ-total, ≤ℤ-of-≡}
@@ -21,7 +21,6 @@ use Rattle.integers.specs.Sum.{sum, sum-cong, sum-+}
 use Rattle.integers.specs.SumRange.{sum-one}
 use Rattle.definitions.specs.Words.{part}
 use Rattle.definitions.specs.Layout.{parts}
-use Rattle.definitions.specs.Loss.{Vector}
 use Rattle.definitions.specs.Refusals.{partLimit}
 use Rattle.definitions.specs.Matrix.{Figures, entry, residue}
 use Rattle.definitions.specs.Sweep.{bringBack, change, step}

@@ -1,18 +1,16 @@
 -- No step of a sweep raises the loss, and so no sweep does; a swept mean stays inside the limits.
-use Prim.Native.Nat.{ℕ, zero, suc, _+_, _*_, _≤_, _<_}
-use mathlib.Core.Path.{_≡_, refl, sym, ap, ap₂, _∙_, subst}
-use mathlib.Core.Logic.{_≢_}
+use Prim.Native.Nat.{ℕ, zero, suc, _+_, _≤_, _<_}
+use mathlib.Core.Path.{_≡_, sym, ap, ap₂, _∙_, subst}
 use mathlib.Core.List.{List, [], _∷_}
 use mathlib.Core.Bool.{Bool, true, false, cond, _||_}
 use native.Mathlib.Omega.{arith}
 use lib.Dec.{leb}
 use lib.IntN.{ℤ, pos, natAbs, _+ℤ_, _-ℤ_, _*ℤ_}
-use lib.ListN.{getD, length}
+use lib.ListN.{length}
 use lib.Signed.{_≤ℤ_, ≤ℤ-refl}
 use Rattle.integers.specs.Linear.{linear, zarith}
 use Rattle.integers.specs.Order.{≤ℤ-trans, pos-≤}
-use Rattle.integers.specs.Ring.{*ℤ-idl}
-use Rattle.integers.specs.Solver.{ring, _⊞_, _⊟_, _⊠_, ⊖_, num, _≐_}
+use Rattle.integers.specs.Solver.{ring, _⊞_, _⊟_, _⊠_, num, _≐_}
 use Rattle.integers.specs.Sum.{sum, sum-cong, sum-+}
 use Rattle.integers.specs.SumRange.{sum-one}
 use Rattle.definitions.specs.Words.{tabFrom, part}
@@ -21,7 +19,7 @@ use Rattle.definitions.specs.Loss.{Vector, loss}
 use Rattle.definitions.specs.Refusals.{partLimit}
 use Rattle.definitions.specs.Observations.{Chain, chainOf}
 use Rattle.definitions.specs.Matrix.{matrix, residueTimes, Figures, figuresOf, entry, residue, passes}
-use Rattle.definitions.specs.Sweep.{change, step, sweepFrom, oneSweep, sweeps, Swept, sweepLimit}
+use Rattle.definitions.specs.Sweep.{change, step, sweepFrom, oneSweep, sweeps, sweepLimit}
 use Rattle.laws.specs.Accepted.{AcceptedFile}
 use Rattle.laws.specs.Diagonal.{diagonal-is}
 use Rattle.laws.specs.FileBounds.{file-owned}

@@ -1,18 +1,18 @@
 -- Theorem 3.4 of source document 000, on rounded weights and in document 01's terms: for every vector the residue by the matrix is the residue
 -- observation by observation, and the loss of u/m expands around a mean with that residue and matrix as its coefficients.
-use Prim.Native.Nat.{ℕ, zero, suc, _+_, _*_, _-_, _≤_, _<_}
-use mathlib.Core.Path.{_≡_, refl, sym, ap, ap₂, _∙_, subst}
-use mathlib.Core.List.{List, [], _∷_}
+use Prim.Native.Nat.{ℕ, _+_, _*_, _-_, _<_}
+use mathlib.Core.Path.{_≡_, sym, ap, ap₂, _∙_}
+use mathlib.Core.List.{[], _∷_}
 use native.Mathlib.Omega.{arith}
 use lib.IntN.{ℤ, pos, negsuc, _+ℤ_, _-ℤ_, _*ℤ_}
 use Rattle.integers.specs.Ring.{*ℤ-idl}
 use Rattle.integers.specs.Solver.{ring, _⊞_, _⊟_, _⊠_, ⊖_, num, _≐_}
-use Rattle.integers.specs.Sum.{sum, sum-cong, sum--, sum-scale, sum-const}
+use Rattle.integers.specs.Sum.{sum, sum-cong, sum-scale, sum-const, sum--}
 use Rattle.definitions.specs.Layout.{parts}
 use Rattle.definitions.specs.Loss.{Vector, weighted, ratio, loss, lossTimes}
 use Rattle.definitions.specs.Observations.{Chain}
 use Rattle.definitions.specs.Matrix.{Part, Φ, Ψ, partOf, ownOf, own, residueTimes}
-use Rattle.laws.specs.Quadratic.{Form, combined, missed, felt, formResidue, apart, expansion}
+use Rattle.laws.specs.Quadratic.{missed, felt, apart, expansion}
 use Rattle.laws.specs.LossForm.{combined-is-ratio, loss-is-form}
 use Rattle.laws.specs.PrecisionMatrix.{lossForm, firstsOf, by-development, felt-by-rank, residue-is-form}
 use Rattle.laws.specs.Ranks.{rankOf, signOf, rank-below}

@@ -1,5 +1,5 @@
 -- The weight of a variance: positive, at most 2^28 on every accepted variance, and falling as the variance grows.
-use Prim.Native.Nat.{ℕ, zero, suc, _+_, _*_, _-_, _/_, _^_, _≤_, _<_}
+use Prim.Native.Nat.{ℕ, zero, suc, _+_, _*_, _^_, _≤_, _<_}
 use mathlib.Core.Path.{_≡_, refl}
 use native.Mathlib.Nat.{mul-le-mul-left, le-div-iff-mul-le, div-mul-le-self}
 use native.Mathlib.Omega.{arith}
