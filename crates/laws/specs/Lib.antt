@@ -18,6 +18,7 @@
 --   FileLimits        the sizes of an accepted file's figures, as numbers
 --   StepLaws          one step of a sweep: one part changes, stays inside, residues follow
 --   SweepLaws         no step and no sweep raises the loss; a swept mean stays inside the limits
+--   MachineLaws       the machine runs on a file's figures; every state that calls reach is empty or an accepted file, a mean inside, a total ≤ 4,096
 pub mod LogarithmBound
 pub mod LogarithmOrder
 pub mod WeightLaws
@@ -37,3 +38,4 @@ pub mod FileBounds
 pub mod FileLimits
 pub mod StepLaws
 pub mod SweepLaws
+pub mod MachineLaws
