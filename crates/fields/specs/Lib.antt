@@ -1,0 +1,2 @@
+-- What a reading of a field finds.
+pub mod Fields

@@ -1,0 +1,165 @@
+-- `layout::checks::file::check_10` meets its contract: the two fields are the last amounts of year 0, and both end inside the file.
+-- Assumes nothing.
+use denote.Ref.{now}
+use mathlib.Core.Path.{_≡_, sym, ap, _∙_}
+use Prim.Native.Nat.{_+_, _*_, _≤_}
+use native.Mathlib.Omega.{arith}
+use borrow.Author.Tests.{eq-eqb, ne-eqb}
+use lib.ListN.{length}
+use Rattle.definitions.specs.Layout.{Bytes, unsigned, lastYear, cells, paidAt, incurredAt, paid, incurred}
+use Rattle.definitions.specs.Refusals.{check10, refuses}
+use Rattle.layout.specs.Checks.{Whole}
+use Rattle.layout.specs.Places.{row-start-zero, row-inside, amount-inside}
+use Rattle.fields.specs.Fields.{field-read, field-outside}
+use Rattle.layout.specs.CheckLaws.{unless-holds, unless-fails}
+use borrow.Author.Needs.{needs}
+use Rattle.layout.proofs.checks.file.check_10.Statement.{statement}
+use Rattle.layout.proofs.checks.file.check_10.Tie as tie
+
+-- the last cell of year 0, in each block
+paid-inside : (s : Bytes) → Whole s → paidAt (lastYear s) 0 (lastYear s) + 8 ≤ length s
+paid-inside s w = amount-inside s w _ (omega (arith, row-inside (lastYear s) 0 (omega arith)))
+
+incurred-inside : (s : Bytes) → Whole s → incurredAt (lastYear s) 0 (lastYear s) + 8 ≤ length s
+incurred-inside s w = amount-inside s w _ (omega (arith, row-inside (lastYear s) 0 (omega arith)))
+
+paid-place : (c : tie.After-cells-of)
+    → let J = lastYear (now (c .before .before .before .before .args .s)) in
+    c .before .amounts-at .result + 8 * c .before .before .last-year .result ≡ paidAt J 0 J
+paid-place c = omega (arith, row-start-zero (lastYear (now (c .before .before .before .before .args .s))))
+
+incurred-place : (c : tie.After-cells-of)
+    → let J = lastYear (now (c .before .before .before .before .args .s)) in
+    c .before .amounts-at .result + 8 * c .before .before .last-year .result + 8 * c .cells-of .result ≡ incurredAt J 0 J
+incurred-place c =
+    let J = lastYear (now (c .before .before .before .before .args .s)) in
+    let all : c .cells-of .result ≡ cells J = c .cells-of .ensures ∙ ap cells (c .before .before .last-year .ensures) in
+    omega (arith, row-start-zero J)
+
+paid-read : (c : tie.After-known-told2)
+    → let s = now (c .before .before .before .before .before .before .before .before .before .before .before .before .args .s) in
+    c .before .before .before .before .before .paid .given .0 .0 ≡ paid s 0 (lastYear s)
+paid-read c =
+    let d = c .before .before .before .before .before .before .before .before in
+    let s = now (d .before .before .before .before .args .s) in
+    field-read 8 (d .before .amounts-at .result + 8 * d .before .before .last-year .result) s (c .before .before .before .before .before .before .before .unsigned-8 .ensures)
+    (c .before .before .before .before .before .paid .given .1)
+    ∙ ap (λ at. unsigned 8 at s) (paid-place d)
+
+incurred-read : (c : tie.After-known-told2)
+    → let s = now (c .before .before .before .before .before .before .before .before .before .before .before .before .args .s) in
+    c .before .incurred .given .0 .0 ≡ incurred s 0 (lastYear s)
+incurred-read c =
+    let d = c .before .before .before .before .before .before .before .before in
+    let s = now (d .before .before .before .before .args .s) in
+    field-read 8 (d .before .amounts-at .result + 8 * d .before .before .last-year .result + 8 * d .cells-of .result) s (c .before .before .before .unsigned-82 .ensures)
+    (c .before .incurred .given .1)
+    ∙ ap (λ at. unsigned 8 at s) (incurred-place d)
+
+last-year-requires : tie.Need-last-year-requires
+last-year-requires c κs = search needs
+
+amounts-at-requires : tie.Need-amounts-at-requires
+amounts-at-requires c κs = search needs
+
+cast-paid-at : tie.Need-cast-paid-at
+cast-paid-at c = search needs
+
+mul-paid-at : tie.Need-mul-paid-at
+mul-paid-at c = search needs
+
+add-paid-at : tie.Need-add-paid-at
+add-paid-at c = search needs
+
+cells-of-requires : tie.Need-cells-of-requires
+cells-of-requires c κs = search needs
+
+mul-incurred-at : tie.Need-mul-incurred-at
+mul-incurred-at c = let s = now (c .before .before .before .before .args .s) in omega (arith, incurred-place c, incurred-inside s (c .before .before .before .before .pre))
+
+add-incurred-at : tie.Need-add-incurred-at
+add-incurred-at c = let s = now (c .before .before .before .before .args .s) in omega (arith, incurred-place c, incurred-inside s (c .before .before .before .before .pre))
+
+unsigned-8-requires : tie.Need-unsigned-8-requires
+unsigned-8-requires c κs = search needs
+
+enum-known-paid : tie.Need-enum-known-paid
+enum-known-paid c = search needs
+
+enum-told : tie.Need-enum-told
+enum-told c = search needs
+
+returns : tie.Need-returns
+returns c =
+    let d = c .before .before .before in
+    let s = now (d .before .before .before .before .args .s) in
+    absurd
+    (omega (
+      arith,
+      paid-place d,
+      paid-inside s (d .before .before .before .before .pre),
+      field-outside 8 (d .before .amounts-at .result + 8 * d .before .before .last-year .result) s (c .before .before .unsigned-8 .ensures) (c .enum-told .given .1),
+    ))
+
+unsigned-8-requires-2 : tie.Need-unsigned-8-requires-2
+unsigned-8-requires-2 c κs = search needs
+
+enum-known-incurred : tie.Need-enum-known-incurred
+enum-known-incurred c = search needs
+
+enum-told-2 : tie.Need-enum-told-2
+enum-told-2 c = search needs
+
+returns-2 : tie.Need-returns-2
+returns-2 c =
+    let d = c .before .before .before .before .before .before .before in
+    let s = now (d .before .before .before .before .args .s) in
+    absurd
+    (omega (
+      arith,
+      incurred-place d,
+      incurred-inside s (d .before .before .before .before .pre),
+      field-outside 8 (d .before .amounts-at .result + 8 * d .before .before .last-year .result + 8 * d .cells-of .result) s (c .before .before .unsigned-82 .ensures)
+          (c .enum-told2 .given .1),
+    ))
+
+returns-3 : tie.Need-returns-3
+unfolding check10
+returns-3 c =
+    let d = c .before .before .before .before .before .before .before .before .before in
+    let s = now (d .before .before .before .before .args .s) in
+    let J = lastYear s in
+    ap (refuses 10) (paid-place d)
+    ∙ unless-fails 10 (paidAt J 0 J)
+    (ne-eqb (paid s 0 J) (incurred s 0 J) (λ h. c .if1 .taken (paid-read (c .before) ∙ h ∙ sym (incurred-read (c .before)))))
+
+returns-4 : tie.Need-returns-4
+unfolding check10
+returns-4 c =
+    let d = c .before .before .before .before .before .before .before .before .before in
+    let s = now (d .before .before .before .before .args .s) in
+    let J = lastYear s in
+    unless-holds 10 (paidAt J 0 J) (eq-eqb (paid s 0 J) (incurred s 0 J) (sym (paid-read (c .before)) ∙ c .if1 .left ∙ incurred-read (c .before)))
+
+pub check-10-spec : {M : Type 1} → statement M
+check-10-spec =
+    tie.close
+    (tie.spec
+    last-year-requires
+    amounts-at-requires
+    cast-paid-at
+    mul-paid-at
+    add-paid-at
+    cells-of-requires
+    mul-incurred-at
+    add-incurred-at
+    unsigned-8-requires
+    enum-known-paid
+    enum-told
+    returns
+    unsigned-8-requires-2
+    enum-known-incurred
+    enum-told-2
+    returns-2
+    returns-3
+    returns-4)

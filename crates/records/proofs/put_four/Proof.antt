@@ -1,0 +1,74 @@
+-- `records::put_four` meets its contract: four stores in a row. Assumes nothing.
+use denote.Ref.{now}
+use native.Mathlib.Omega.{arith}
+use mathlib.Core.List.{[], _∷_}
+use Prim.Native.Nat.{_/_, _%_}
+use native.Mathlib.Numerals.{add-one, add-two, add-three}
+use lib.ListN.{length-set}
+use lib.Seq.{sets-eq}
+use Rattle.definitions.specs.Layout.{bytesOf}
+use borrow.Author.Needs.{needs}
+use Rattle.records.proofs.put_four.Statement.{statement}
+use Rattle.records.proofs.put_four.Tie as tie
+
+cast-buf : tie.Need-cast-buf
+cast-buf c = search needs
+
+slice-write-buf : tie.Need-slice-write-buf
+slice-write-buf c = search needs
+
+cast-buf-2 : tie.Need-cast-buf-2
+cast-buf-2 c = search needs
+
+add-buf : tie.Need-add-buf
+add-buf c = search needs
+
+slice-write-buf-2 : tie.Need-slice-write-buf-2
+slice-write-buf-2 c = simp length-set (omega arith)
+
+cast-buf-3 : tie.Need-cast-buf-3
+cast-buf-3 c = search needs
+
+add-buf-2 : tie.Need-add-buf-2
+add-buf-2 c = search needs
+
+slice-write-buf-3 : tie.Need-slice-write-buf-3
+slice-write-buf-3 c = simp length-set (omega arith)
+
+cast-buf-4 : tie.Need-cast-buf-4
+cast-buf-4 c = search needs
+
+add-buf-3 : tie.Need-add-buf-3
+add-buf-3 c = search needs
+
+slice-write-buf-4 : tie.Need-slice-write-buf-4
+slice-write-buf-4 c = simp length-set (omega arith)
+
+same-length : tie.Need-same-length
+same-length c = search needs
+
+returns : tie.Need-returns
+unfolding bytesOf
+returns c =
+    let a = c .args in
+    let v = a .v in
+    rw (add-one (a .at), add-two (a .at), add-three (a .at))
+    (sets-eq (v / 256 / 256 / 256 % 256 ∷ v / 256 / 256 % 256 ∷ v / 256 % 256 ∷ v % 256 ∷ []) (now (a .buf)) (a .at) (c .pre))
+
+pub put-four-spec : {M : Type 1} → statement M
+put-four-spec =
+    tie.close
+    (tie.spec
+    cast-buf
+    slice-write-buf
+    cast-buf-2
+    add-buf
+    slice-write-buf-2
+    cast-buf-3
+    add-buf-2
+    slice-write-buf-3
+    cast-buf-4
+    add-buf-3
+    slice-write-buf-4
+    same-length
+    returns)

@@ -1,0 +1,2 @@
+-- Mean records: written and read back.
+pub mod Records

@@ -1,0 +1,2 @@
+-- The logarithm between two squarings.
+pub mod Squaring
