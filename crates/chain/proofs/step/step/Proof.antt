@@ -1,0 +1,169 @@
+-- One step. Shown: each number that the code computes is the definitions', since none wraps; the part is set to the definitions' part, and the residues that
+-- follow speak of the same right-hand side as before. Assumes nothing.
+use Prim.Native.Nat.{ℕ, _≤_}
+use mathlib.Core.Path.{_≡_, sym, ap, ap₂, _∙_, subst}
+use mathlib.Core.List.{List}
+use native.Mathlib.Omega.{arith}
+use borrow.Author.Needs.{needs}
+use lib.IntN.{ℤ, pos, natAbs, _+ℤ_, _-ℤ_, _*ℤ_}
+use lib.ListN.{length}
+use lib.Signed.{_<ℤ_}
+use mir.Syntax.{w64}
+use Rattle.integers.specs.Floor.{floorDiv}
+use Rattle.integers.specs.Linear.{linear}
+use Rattle.integers.specs.Size.{fits, kept}
+use Rattle.definitions.specs.Words.{part}
+use Rattle.definitions.specs.Layout.{parts}
+use Rattle.definitions.specs.Sweep.{bringBack}
+use Rattle.chain.specs.declared.figures.Working.{Working}
+use Rattle.chain.specs.Arrays.{cell}
+use Rattle.chain.specs.Bits.{stored, read}
+use Rattle.chain.specs.Held.{stepped}
+use Rattle.chain.specs.Step.{Steps}
+use Rattle.chain.specs.StepSizes.{index-below, parts-below, diagonal-small, diagonal-positive, residue-small, doubled-small, dividend-small, divisor-small, floor-small, moved-small, fresh-small, change-small, follows, done}
+use Rattle.chain.proofs.step.step.Statement.{statement}
+use Rattle.chain.proofs.step.step.Tie as tie
+
+module _ {last : ℕ} {A : List ℤ} {w : Working} {k : ℕ} (h : Steps last A w k) where
+  diagonal : stored (cell A k k) ≡ cell A k k
+  diagonal = read (cell A k k) (omega (arith, diagonal-small h))
+
+  old : stored (part (w .mean) k) ≡ part (w .mean) k
+  old = read (part (w .mean) k) (omega (arith, h .inside .small k (h .below)))
+
+  doubled : pos 2 *ℤ stored (part (w .residues) k) ≡ pos 2 *ℤ part (w .residues) k
+  doubled = ap (λ r. pos 2 *ℤ r) (read (part (w .residues) k) (omega (arith, residue-small h)))
+
+  dividend : stored (cell A k k) -ℤ stored (pos 2 *ℤ stored (part (w .residues) k)) ≡ cell A k k -ℤ pos 2 *ℤ part (w .residues) k
+  dividend = ap₂ _-ℤ_ diagonal (kept w64 doubled (omega (arith, doubled-small h)))
+
+  divisor : pos 2 *ℤ stored (cell A k k) ≡ pos 2 *ℤ cell A k k
+  divisor = ap (λ a. pos 2 *ℤ a) diagonal
+
+  divisor-kept : stored (pos 2 *ℤ stored (cell A k k)) ≡ pos 2 *ℤ cell A k k
+  divisor-kept = kept w64 divisor (omega (arith, divisor-small h))
+
+  divisor-positive : pos 0 <ℤ stored (pos 2 *ℤ stored (cell A k k))
+  divisor-positive = let one = diagonal-positive h in subst (λ d. pos 0 <ℤ d) (sym divisor-kept) (simp linear (omega (arith, simp linear at one)))
+
+  -- q is what `floor` gives, and z what `brought_back` gives
+  module _ (q : ℤ) (q-is : q ≡ floorDiv (stored (stored (cell A k k) -ℤ stored (pos 2 *ℤ stored (part (w .residues) k)))) (natAbs (stored (pos 2 *ℤ stored (cell A k k))))) where
+    quotient : q ≡ floorDiv (cell A k k -ℤ pos 2 *ℤ part (w .residues) k) (natAbs (pos 2 *ℤ cell A k k))
+    quotient = q-is ∙ ap₂ (λ x d. floorDiv x (natAbs d)) (kept w64 dividend (omega (arith, dividend-small h))) divisor-kept
+
+    quotient-kept : stored q ≡ floorDiv (cell A k k -ℤ pos 2 *ℤ part (w .residues) k) (natAbs (pos 2 *ℤ cell A k k))
+    quotient-kept = kept w64 quotient (omega (arith, floor-small h (natAbs (pos 2 *ℤ cell A k k))))
+
+    moved : stored (part (w .mean) k) +ℤ stored q ≡ part (w .mean) k +ℤ floorDiv (cell A k k -ℤ pos 2 *ℤ part (w .residues) k) (natAbs (pos 2 *ℤ cell A k k))
+    moved = ap₂ _+ℤ_ old quotient-kept
+
+    module _ (z : ℤ) (z-is : z ≡ bringBack (stored (stored (part (w .mean) k) +ℤ stored q))) where
+      fresh : z ≡ stepped A w k
+      fresh = z-is ∙ ap bringBack (kept w64 moved (moved-small h (natAbs (pos 2 *ℤ cell A k k))))
+
+      fresh-kept : stored z ≡ stepped A w k
+      fresh-kept = kept w64 fresh (omega (arith, fresh-small h))
+
+      change : stored z -ℤ stored (part (w .mean) k) ≡ stepped A w k -ℤ part (w .mean) k
+      change = ap₂ _-ℤ_ fresh-kept old
+
+      change-kept : stored (stored z -ℤ stored (part (w .mean) k)) ≡ stepped A w k -ℤ part (w .mean) k
+      change-kept = kept w64 change (omega (arith, change-small h))
+
+-- the mean's array has 31 numbers
+mean-long : (c : tie.After-brought-back) → parts (c .before .before .before .before .before .before .before .args .last) ≤ length (c .before .before .before .before .before .before .before .args .working .mean)
+mean-long c =
+    let s = c .before .before .before .before .before .before .before in
+    let long : length (s .args .working .mean) ≡ 31 = search needs in
+    omega (arith, parts-below (s .pre))
+
+mul-diagonal : tie.Need-mul-diagonal
+mul-diagonal c = omega (arith, index-below (c .before .before .pre))
+
+add-diagonal : tie.Need-add-diagonal
+add-diagonal c = omega (arith, index-below (c .before .before .pre))
+
+mul-diagonal-2 : tie.Need-mul-diagonal-2
+mul-diagonal-2 c = omega (arith, index-below (c .before .before .pre))
+
+element-copy-out-diagonal : tie.Need-element-copy-out-diagonal
+element-copy-out-diagonal c = omega (arith, index-below (c .before .before .pre))
+
+mul-old : tie.Need-mul-old
+mul-old c = omega (arith, index-below (c .before .before .before .pre))
+
+array-copy-out-old : tie.Need-array-copy-out-old
+array-copy-out-old c = omega (arith, index-below (c .before .before .before .pre))
+
+mul-floor : tie.Need-mul-floor
+mul-floor c = omega (arith, index-below (c .before .before .before .before .pre))
+
+array-copy-out-floor : tie.Need-array-copy-out-floor
+array-copy-out-floor c = omega (arith, index-below (c .before .before .before .before .pre))
+
+mul-floor-2 : tie.Need-mul-floor-2
+mul-floor-2 c = let h = c .before .before .before .before .before .pre in fits (doubled h) (omega (arith, doubled-small h))
+
+sub-floor : tie.Need-sub-floor
+sub-floor c = let h = c .before .before .before .before .before .pre in fits (dividend h) (omega (arith, dividend-small h))
+
+mul-floor-3 : tie.Need-mul-floor-3
+mul-floor-3 c = let h = c .before .before .before .before .before .pre in fits (divisor h) (omega (arith, divisor-small h))
+
+floor-requires : tie.Need-floor-requires
+floor-requires c κs = divisor-positive (c .before .before .before .before .before .pre)
+
+add-brought-back : tie.Need-add-brought-back
+add-brought-back c = let h = c .before .before .before .before .before .before .pre in fits (moved h (c .floor .result) (c .floor .ensures)) (moved-small h _)
+
+brought-back-requires : tie.Need-brought-back-requires
+brought-back-requires c κs = search needs
+
+mul-mean : tie.Need-mul-mean
+mul-mean c = omega (arith, index-below (c .before .before .before .before .before .before .before .pre))
+
+array-set-from-mean : tie.Need-array-set-from-mean
+array-set-from-mean c = omega (arith, index-below (c .before .before .before .before .before .before .before .pre))
+
+sub-followed : tie.Need-sub-followed
+sub-followed c =
+    let h = c .before .before .before .before .before .before .before .pre in
+    fits (change h (c .before .floor .result) (c .before .floor .ensures) (c .brought-back .result) (c .brought-back .ensures)) (omega (arith, change-small h))
+
+followed-requires : tie.Need-followed-requires
+followed-requires c κs =
+    let s = c .before .before .before .before .before .before .before in
+    follows (s .pre) (mean-long c) (change-kept (s .pre) (c .before .floor .result) (c .before .floor .ensures) (c .brought-back .result) (c .brought-back .ensures))
+
+returns : tie.Need-returns
+returns c =
+    let b = c .before in
+    let h = b .before .before .before .before .before .before .before .pre in
+    done h (mean-long b)
+    (fresh-kept h (b .before .floor .result) (b .before .floor .ensures) (b .brought-back .result) (b .brought-back .ensures))
+    (change-kept h (b .before .floor .result) (b .before .floor .ensures) (b .brought-back .result) (b .brought-back .ensures))
+    (c .followed .result) (c .followed .ensures)
+
+pub step-spec : {M : Type 1} → statement M
+step-spec =
+    tie.close
+    (tie.spec
+    mul-diagonal
+    add-diagonal
+    mul-diagonal-2
+    element-copy-out-diagonal
+    mul-old
+    array-copy-out-old
+    mul-floor
+    array-copy-out-floor
+    mul-floor-2
+    sub-floor
+    mul-floor-3
+    floor-requires
+    add-brought-back
+    brought-back-requires
+    mul-mean
+    array-set-from-mean
+    sub-followed
+    followed-requires
+    returns)

@@ -1,0 +1,44 @@
+-- What the arrays of the code stand for. An array of i64 is a list of whole numbers 31 or 961 long, of which the parts 0..2J count.
+use Prim.Native.Nat.{ℕ, _+_, _*_}
+use mathlib.Core.List.{List, []}
+use lib.IntN.{ℤ, _-ℤ_, _*ℤ_}
+use lib.ListN.{getD}
+use Rattle.integers.specs.Sum.{sum}
+use Rattle.definitions.specs.Words.{tabFrom, part}
+use Rattle.definitions.specs.Layout.{parts}
+use Rattle.definitions.specs.Matrix.{Figures}
+use Rattle.chain.specs.declared.figures.Figures.{Figures as FlatFigures}
+use Rattle.chain.specs.declared.figures.Working.{Working}
+
+-- a mean, or another vector of one number for each part
+abbrev pub meanOf : ℕ → List ℤ → List ℤ
+meanOf last v = tabFrom 0 (parts last) (part v)
+
+-- row k, column l of the matrix is at 31·k + l
+abbrev pub cell : List ℤ → ℕ → ℕ → ℤ
+cell A k l = part A (31 * k + l)
+
+abbrev pub rowsOf : ℕ → List ℤ → List (List ℤ)
+rowsOf last A = tabFrom 0 (parts last) (λ k. tabFrom 0 (parts last) (cell A k))
+
+unfoldable pub figuresOf : FlatFigures → Figures
+figuresOf F = record {
+  last = F .last;
+  closeness = F .closeness;
+  own = tabFrom 0 (parts (F .last)) (λ k. getD (F .own) k 0);
+  matrix = rowsOf (F .last) (F .matrix);
+  rightHand = meanOf (F .last) (F .«right_hand»);
+}
+
+-- The figures that residues and steps use: the matrix and a right-hand side, with no test of a mean.
+abbrev pub system : ℕ → List ℤ → List ℤ → Figures
+system last A b = record { last = last; closeness = 0; own = []; matrix = rowsOf last A; rightHand = b }
+
+-- The right-hand side of which a working mean's residues speak: A·mean − residues.
+abbrev pub heldRightHand : ℕ → List ℤ → Working → List ℤ
+heldRightHand last A w =
+    tabFrom 0 (parts last) (λ k. sum (parts last) (λ l. cell A k l *ℤ part (w .mean) l) -ℤ part (w .residues) k)
+
+-- A step has the matrix, a mean and its residues, and so the system that they belong to.
+unfoldable pub held : ℕ → List ℤ → Working → Figures
+held last A w = system last A (heldRightHand last A w)

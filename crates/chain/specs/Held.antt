@@ -1,0 +1,119 @@
+-- A working mean and the system that it belongs to: its residues are those of its mean, and stay so where one part is set anew.
+use Prim.Native.Nat.{ℕ, zero, suc, _+_, _*_, _≤_, _<_}
+use mathlib.Core.Path.{_≡_, refl, sym, ap, ap₂, _∙_}
+use mathlib.Core.List.{List, [], _∷_}
+use native.Mathlib.Decide.{ℕ-discrete}
+use native.Mathlib.Omega.{arith}
+use lib.IntN.{ℤ, pos, natAbs, _+ℤ_, _-ℤ_, _*ℤ_, +ℤ-invr}
+use lib.ListN.{length, set, length-set}
+use lib.Seq.{ext-getD, getD-set-same, getD-set-other}
+use Rattle.integers.specs.Solver.{ring, _⊞_, _⊟_, _⊠_, _≐_}
+use Rattle.integers.specs.Size.{natAbs-*}
+use Rattle.integers.specs.Sum.{sum, sum--}
+use Rattle.integers.specs.SumRange.{sum-one}
+use Rattle.integers.specs.Floor.{floorDiv}
+use Rattle.definitions.specs.Words.{tabFrom, part}
+use Rattle.definitions.specs.Layout.{parts}
+use Rattle.definitions.specs.Matrix.{residue, entry}
+use Rattle.definitions.specs.Sweep.{bringBack, change, step}
+use Rattle.laws.specs.Judged.{tab-at, tabFrom-length}
+use Rattle.chain.specs.declared.figures.Working.{Working}
+use Rattle.chain.specs.Arrays.{meanOf, cell, system, heldRightHand, held}
+use Rattle.chain.specs.Sizes.{mean-at, entry-at, residue-at}
+
+-- ---- tables
+
+-- two tables with the same elements
+pub tab-cong : {A : Type 0} (i n : ℕ) {f g : ℕ → A} → ((k : ℕ) → i ≤ k → k < i + n → f k ≡ g k) → tabFrom i n f ≡ tabFrom i n g
+unfolding tabFrom
+tab-cong i zero h = refl
+tab-cong i (suc n) h = ap₂ _∷_ (h i (omega arith) (omega arith)) (tab-cong (suc i) n (λ k from to. h k (omega arith) (omega arith)))
+
+-- a part of a mean is set in its array
+pub mean-set : (last : ℕ) (v : List ℤ) → parts last ≤ length v → (k : ℕ) → k < parts last → (z : ℤ) → meanOf last (set v k z) ≡ set (meanOf last v) k z
+mean-set last v long k below z =
+    ext-getD (pos 0) (meanOf last (set v k z)) (set (meanOf last v) k z)
+    (table-long (set v k z) ∙ sym (length-set (meanOf last v) k z ∙ table-long v))
+    (λ i i-below. mean-at last (set v k z) i (omega (arith, table-long (set v k z))) ∙ by-place i (omega (arith, table-long (set v k z))) (ℕ-discrete i k))
+  where
+    table-long : (l : List ℤ) → length (meanOf last l) ≡ parts last
+    table-long l = tabFrom-length 0 (parts last) (part l)
+
+    by-place : (i : ℕ) → i < parts last → Dec (i ≡ k) → part (set v k z) i ≡ part (set (meanOf last v) k z) i
+    by-place i i-below (yes here) =
+        ap (part (set v k z)) here
+        ∙ getD-set-same v k z (pos 0) (omega arith)
+        ∙ sym (ap (part (set (meanOf last v) k z)) here ∙ getD-set-same (meanOf last v) k z (pos 0) (omega (arith, table-long v)))
+    by-place i i-below (no apart) =
+        getD-set-other v k i z (pos 0) apart
+        ∙ sym (getD-set-other (meanOf last v) k i z (pos 0) apart ∙ mean-at last v i i-below)
+
+-- a sum of products where one factor is set anew
+pub sum-set : (n : ℕ) (f : ℕ → ℤ) (μ : List ℤ) → n ≤ length μ → (k : ℕ) → k < n → (z : ℤ)
+    → sum n (λ l. f l *ℤ part (set μ k z) l) ≡ sum n (λ l. f l *ℤ part μ l) +ℤ f k *ℤ (z -ℤ part μ k)
+sum-set n f μ long k below z =
+    let gain : sum n (λ l. f l *ℤ part (set μ k z) l -ℤ f l *ℤ part μ l) ≡ f k *ℤ (z -ℤ part μ k) =
+    sum-one n k below (λ l _ apart. ap (λ x. f l *ℤ x -ℤ f l *ℤ part μ l) (getD-set-other μ k l z (pos 0) apart) ∙ +ℤ-invr (f l *ℤ part μ l))
+    ∙ ap (λ x. f k *ℤ x -ℤ f k *ℤ part μ k) (getD-set-same μ k z (pos 0) (omega arith))
+    ∙ ring (f k ∷ z ∷ part μ k ∷ []) (λ a z m. a ⊠ z ⊟ a ⊠ m ≐ a ⊠ (z ⊟ m)) tt in
+    ring (sum n (λ l. f l *ℤ part (set μ k z) l) ∷ sum n (λ l. f l *ℤ part μ l) ∷ []) (λ s t. s ≐ t ⊞ (s ⊟ t)) tt
+    ∙ ap (λ x. sum n (λ l. f l *ℤ part μ l) +ℤ x) (sym (sum-- n (λ l. f l *ℤ part (set μ k z) l) (λ l. f l *ℤ part μ l)) ∙ gain)
+
+-- ---- a working mean
+
+-- part k after its step, in the arrays' terms
+abbrev pub stepped : List ℤ → Working → ℕ → ℤ
+stepped A w k = bringBack (part (w .mean) k +ℤ floorDiv (cell A k k -ℤ pos 2 *ℤ part (w .residues) k) (natAbs (pos 2 *ℤ cell A k k)))
+
+module _ (last : ℕ) (A : List ℤ) (w : Working) (k : ℕ) (below : k < parts last) where
+  pub held-difference : sum (parts last) (λ l. cell A k l *ℤ part (w .mean) l) -ℤ part (heldRightHand last A w) k ≡ part (w .residues) k
+  held-difference =
+      let row : ℤ = sum (parts last) (λ l. cell A k l *ℤ part (w .mean) l) in
+      ap (λ b. row -ℤ b) (tab-at (parts last) (λ k. sum (parts last) (λ l. cell A k l *ℤ part (w .mean) l) -ℤ part (w .residues) k) k (pos 0) below)
+      ∙ ring (row ∷ part (w .residues) k ∷ []) (λ s r. s ⊟ (s ⊟ r) ≐ r) tt
+
+  pub held-residue : residue (held last A w) (part (meanOf last (w .mean))) k ≡ part (w .residues) k
+  unfolding held
+  held-residue = residue-at last A (heldRightHand last A w) (w .mean) k below ∙ held-difference
+
+  held-diagonal : entry (held last A w) k k ≡ cell A k k
+  unfolding held
+  held-diagonal = entry-at last A (heldRightHand last A w) k k below below
+
+  pub step-is : step (held last A w) k (meanOf last (w .mean)) ≡ set (meanOf last (w .mean)) k (stepped A w k)
+  unfolding step change
+  step-is =
+      ap (λ z. set (meanOf last (w .mean)) k (bringBack z))
+      (ap₂ _+ℤ_ (mean-at last (w .mean) k below)
+      (ap₂ floorDiv (ap₂ (λ a r. a -ℤ pos 2 *ℤ r) held-diagonal held-residue) (ap (λ a. 2 * natAbs a) held-diagonal ∙ sym (natAbs-* (pos 2) (cell A k k)))))
+
+-- ---- one part of it set anew, and the residues following
+
+module _ (last : ℕ) (A : List ℤ) (w : Working) (long : parts last ≤ length (w .mean)) (k : ℕ) (below : k < parts last) (z : ℤ) where
+  -- what is left of the right-hand side of a residue that follows
+  pub followed-is : (i : ℕ) → i < parts last
+      → part (w .residues) i +ℤ cell A i k *ℤ (z -ℤ part (w .mean) k)
+      ≡ sum (parts last) (λ l. cell A i l *ℤ part (set (w .mean) k z) l) -ℤ part (heldRightHand last A w) i
+  followed-is i i-below =
+      let row : ℤ = sum (parts last) (λ l. cell A i l *ℤ part (w .mean) l) in
+      let gain : ℤ = cell A i k *ℤ (z -ℤ part (w .mean) k) in
+      ring (row ∷ gain ∷ part (w .residues) i ∷ []) (λ s g r. r ⊞ g ≐ (s ⊞ g) ⊟ (s ⊟ r)) tt
+      ∙ sym (ap₂ _-ℤ_ (sum-set (parts last) (cell A i) (w .mean) long k below z)
+      (tab-at (parts last) (λ k. sum (parts last) (λ l. cell A k l *ℤ part (w .mean) l) -ℤ part (w .residues) k) i (pos 0) i-below))
+
+  pub held-same : (r : Working) → r .mean ≡ set (w .mean) k z
+      → ((i : ℕ) → i < parts last → part (r .residues) i ≡ part (w .residues) i +ℤ cell A i k *ℤ (z -ℤ part (w .mean) k))
+      → held last A r ≡ held last A w
+  unfolding held
+  held-same r mean-is residues-are = ap (system last A) (tab-cong 0 (parts last) (λ i _ to. at i (omega arith)))
+    where
+      at : (i : ℕ) → i < parts last
+          → sum (parts last) (λ l. cell A i l *ℤ part (r .mean) l) -ℤ part (r .residues) i
+          ≡ sum (parts last) (λ l. cell A i l *ℤ part (w .mean) l) -ℤ part (w .residues) i
+      at i i-below =
+          let row : ℤ = sum (parts last) (λ l. cell A i l *ℤ part (w .mean) l) in
+          let gain : ℤ = cell A i k *ℤ (z -ℤ part (w .mean) k) in
+          ap₂ _-ℤ_
+          (ap (λ μ. sum (parts last) (λ l. cell A i l *ℤ part μ l)) mean-is ∙ sum-set (parts last) (cell A i) (w .mean) long k below z)
+          (residues-are i i-below)
+          ∙ ring (row ∷ gain ∷ part (w .residues) i ∷ []) (λ s g r. (s ⊞ g) ⊟ (r ⊞ g) ≐ s ⊟ r) tt

@@ -1,0 +1,38 @@
+-- An array of 31 numbers that is rewritten from the front: below k it has its new numbers already, from k on still its old ones.
+use Prim.Native.Nat.{ℕ, zero, suc, _+_, _≤_, _<_}
+use mathlib.Core.Path.{_≡_, refl, ap, sym, _∙_}
+use mathlib.Core.Logic.{_⊎_, inl, inr}
+use mathlib.Core.List.{List}
+use native.Mathlib.Nat.{eq-or-lt-of-le}
+use native.Mathlib.Omega.{arith}
+use lib.IntN.{ℤ, pos}
+use lib.ListN.{length, set, replicate, length-set}
+use lib.Seq.{getD-set-same, getD-set-other}
+use Rattle.definitions.specs.Words.{part}
+
+pub record Turned (k : ℕ) (fresh old : ℕ → ℤ) (v : List ℤ) : Type 0 where
+  pub long : length v ≡ 31
+  pub front : (i : ℕ) → i < k → part v i ≡ fresh i
+  pub rest : (i : ℕ) → k ≤ i → part v i ≡ old i
+
+-- an array of zeros
+pub zeros-at : (n i : ℕ) → part (replicate n (pos 0)) i ≡ pos 0
+zeros-at zero i = refl
+zeros-at (suc n) zero = refl
+zeros-at (suc n) (suc i) = zeros-at n i
+
+module _ {fresh old : ℕ → ℤ} {v : List ℤ} where
+  pub turned-none : length v ≡ 31 → ((i : ℕ) → part v i ≡ old i) → Turned 0 fresh old v
+  turned-none long same = record { long = long; front = λ i below. absurd (omega arith); rest = λ i _. same i }
+
+  -- number k is rewritten
+  pub turned-next : {k : ℕ} {z : ℤ} → Turned k fresh old v → k < 31 → z ≡ fresh k → Turned (k + 1) fresh old (set v k z)
+  turned-next {k} {z} h below e = record {
+    long = length-set v k z ∙ h .long;
+    front = λ i i-below. by-place i (eq-or-lt-of-le (omega arith));
+    rest = λ i from. getD-set-other v k i z (pos 0) (λ same. omega arith) ∙ h .rest i (omega arith);
+  }
+    where
+      by-place : (i : ℕ) → (i ≡ k) ⊎ (i < k) → part (set v k z) i ≡ fresh i
+      by-place i (inl here) = ap (part (set v k z)) here ∙ getD-set-same v k z (pos 0) (omega (arith, h .long)) ∙ e ∙ ap fresh (sym here)
+      by-place i (inr earlier) = getD-set-other v k i z (pos 0) (λ same. omega arith) ∙ h .front i earlier

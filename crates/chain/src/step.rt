@@ -1,0 +1,73 @@
+// One step: the change of one part, with the residues following.
+ghost use mathlib.Core.Path.{_≡_};
+ghost use lib.IntN.{pos, natAbs};
+ghost use lib.Signed.{_<ℤ_};
+ghost use Rattle.integers.specs.Floor.{floorDiv};
+ghost use Rattle.definitions.specs.Sweep.{bringBack};
+ghost use Rattle.chain.specs.Step.{Follows, Followed, Steps, Stepped};
+use crate::figures::Working;
+
+const PART_LIMIT: i64 = 67_108_864;
+
+// x / d rounded down; the code's own division rounds toward zero.
+fn floor(x: i64, d: i64) -> i64
+    requires { ⌜ pos 0 <ℤ d ⌝ }
+    ensures { λ r. ⌜ r ≡ floorDiv x (natAbs d) ⌝ }
+{
+    if x < 0 { -1 - (-1 - x) / d } else { x / d }
+}
+
+// The nearest of −2^26 and 2^26 where z is outside them.
+fn brought_back(z: i64) -> i64
+    ensures { λ r. ⌜ r ≡ bringBack z ⌝ }
+{
+    if PART_LIMIT < z {
+        PART_LIMIT
+    } else if z < -PART_LIMIT {
+        -PART_LIMIT
+    } else {
+        z
+    }
+}
+
+// The residues after part k has changed: column k of A times the change is added.
+fn followed(
+    last: usize,
+    matrix: &[i64; 961],
+    residues: [i64; 31],
+    k: usize,
+    change: i64,
+) -> [i64; 31]
+    requires { ⌜ Follows last (now matrix) residues k change ⌝ }
+    ensures { λ r. ⌜ Followed last (now (matrix .entry)) residues k change r ⌝ }
+{
+    if change == 0 {
+        return residues;
+    }
+    let parts = 2 * last + 1;
+    let mut moved = residues;
+    let mut l = 0;
+    while l < parts {
+        moved[l] = moved[l] + matrix[31 * l + k] * change;
+        l += 1;
+    }
+    moved
+}
+
+// Part k changes by floor((A_kk − 2·residue) / (2·A_kk)) and is brought back; residues follow.
+pub fn step(last: usize, matrix: &[i64; 961], working: Working, k: usize) -> Working
+    requires { ⌜ Steps last (now matrix) working k ⌝ }
+    ensures { λ r. ⌜ Stepped last (now (matrix .entry)) working k r ⌝ }
+{
+    let mut mean = working.mean;
+    let residues = working.residues;
+    let diagonal = matrix[31 * k + k];
+    let old = mean[k];
+    let fresh = brought_back(old + floor(diagonal - 2 * residues[k], 2 * diagonal));
+    mean[k] = fresh;
+    let moved = followed(last, matrix, residues, k, fresh - old);
+    Working {
+        mean,
+        residues: moved,
+    }
+}
