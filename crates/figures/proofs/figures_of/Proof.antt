@@ -1,0 +1,162 @@
+-- `figures::figures_of` meets its contract: each call's array agrees with the definition, and so do the figures. Assumes nothing.
+use Prim.Native.Nat.{ℕ}
+use mathlib.Core.Path.{_≡_, sym, subst}
+use mathlib.Core.List.{List}
+use native.Mathlib.Omega.{arith}
+use denote.Ref.{now}
+use Rattle.definitions.specs.Layout.{lastYear}
+use Rattle.figures.specs.Weights.{Owns, OwnWeights, Shares, SharesOf}
+use Rattle.figures.specs.Entries.{OfMatrix, MatrixOf}
+use Rattle.figures.specs.Sums.{OfRatios, RatioSums, OfTargets, Targets}
+use Rattle.figures.specs.Gathered.{file-whole, file-adds, file-owns, file-shares, file-ratios, file-targets, file-matrix, gathered}
+use borrow.Author.Needs.{needs}
+use Rattle.figures.proofs.figures_of.Statement.{statement}
+use Rattle.figures.proofs.figures_of.Tie as tie
+
+-- the places that the later ones go back to, each with what its call gave
+module _ (L : tie.After-last-year) where
+  abbrev s : tie.Start
+  s = L .before .before
+
+  abbrev file : List ℕ
+  file = now (s .args .file)
+
+  year : L .last-year .result ≡ lastYear file
+  year = L .last-year .ensures
+
+abbrev year-of : tie.After-prior-weights → tie.After-last-year
+year-of P = P .before .before
+
+abbrev priors-of : tie.After-own-weights → tie.After-prior-weights
+priors-of O = O .before .before .before
+
+abbrev own-of : tie.After-ratio-weights → tie.After-own-weights
+own-of R = R .before
+
+abbrev ratios-of : tie.After-shares → tie.After-ratio-weights
+ratios-of S = S .before .before
+
+abbrev shares-of : tie.After-logarithms → tie.After-shares
+shares-of G = G .before
+
+abbrev logs-of : tie.After-prior-means → tie.After-logarithms
+logs-of M = M .before
+
+abbrev means-of : tie.After-ratio-sums → tie.After-prior-means
+means-of Q = Q .before .before .before
+
+abbrev sums-of : tie.After-right-hand-of → tie.After-ratio-sums
+sums-of T = T .before .before .before .before .before .before
+
+-- what was gathered by the ratio sums
+module _ (Q : tie.After-ratio-sums) where
+  abbrev S : tie.After-shares
+  S = shares-of (logs-of (means-of Q))
+
+  abbrev R : tie.After-ratio-weights
+  R = ratios-of S
+
+  abbrev O : tie.After-own-weights
+  O = own-of R
+
+  abbrev P : tie.After-prior-weights
+  P = priors-of O
+
+  abbrev Y : tie.After-last-year
+  Y = year-of P
+
+last-year-requires : tie.Need-last-year-requires
+last-year-requires c κs = search needs
+
+column-weights-requires : tie.Need-column-weights-requires
+column-weights-requires c κs = search needs
+
+prior-weights-requires : tie.Need-prior-weights-requires
+prior-weights-requires c κs = search needs
+
+own-weights-requires : tie.Need-own-weights-requires
+own-weights-requires c κs =
+    let P = c .before .before in
+    let Y = year-of P in
+    subst (Owns (P .before .column-weights .result) (P .prior-weights .result)) (sym (year Y)) (file-owns (file Y) (s Y .pre) (P .before .column-weights .ensures) (P .prior-weights .ensures))
+
+ratio-weights-requires : tie.Need-ratio-weights-requires
+ratio-weights-requires c κs = let Y = year-of (priors-of c) in file-adds (file Y) (s Y .pre)
+
+shares-requires : tie.Need-shares-requires
+shares-requires c κs =
+    let R = c .before in
+    let Y = year-of (priors-of (own-of R)) in
+    subst (Shares (R .ratio-weights .result)) (sym (year Y)) (file-shares (file Y) (s Y .pre) (R .ratio-weights .ensures))
+
+logarithms-requires : tie.Need-logarithms-requires
+logarithms-requires c κs = search needs
+
+prior-means-requires : tie.Need-prior-means-requires
+prior-means-requires c κs = search needs
+
+ratio-sums-requires : tie.Need-ratio-sums-requires
+ratio-sums-requires c κs =
+    let M = c .before .before in
+    let G = logs-of M in
+    let R = ratios-of (shares-of G) in
+    let Y = year-of (priors-of (own-of R)) in
+    subst (OfRatios (R .ratio-weights .result) (G .logarithms .result)) (sym (year Y)) (file-ratios (file Y) (s Y .pre) (R .ratio-weights .ensures) (G .logarithms .ensures))
+
+right-hand-of-requires : tie.Need-right-hand-of-requires
+right-hand-of-requires c κs =
+    let Q = c .before .before .before .before .before in
+    let M = means-of Q in
+    let G = logs-of M in
+    subst (OfTargets (P Q .prior-weights .result) (M .prior-means .result) (P Q .before .column-weights .result) (G .logarithms .result) (Q .ratio-sums .result)) (sym (year (Y Q)))
+    (file-targets (file (Y Q)) (s (Y Q) .pre) (P Q .before .column-weights .ensures) (P Q .prior-weights .ensures) (G .logarithms .ensures) (M .prior-means .ensures) (R Q .ratio-weights .ensures)
+    (subst (λ n. RatioSums (R Q .ratio-weights .result) (G .logarithms .result) n (Q .ratio-sums .result)) (year (Y Q)) (Q .ratio-sums .ensures)))
+
+matrix-of-requires : tie.Need-matrix-of-requires
+matrix-of-requires c κs =
+    let Q = sums-of (c .before .before) in
+    subst (OfMatrix (O Q .own-weights .result) (S Q .shares .result)) (sym (year (Y Q)))
+    (file-matrix (file (Y Q)) (s (Y Q) .pre) (P Q .before .column-weights .ensures) (P Q .prior-weights .ensures)
+    (subst (λ n. OwnWeights (P Q .before .column-weights .result) (P Q .prior-weights .result) n (O Q .own-weights .result)) (year (Y Q)) (O Q .own-weights .ensures))
+    (R Q .ratio-weights .ensures) (subst (λ n. SharesOf (R Q .ratio-weights .result) n (S Q .shares .result)) (year (Y Q)) (S Q .shares .ensures)))
+
+cast-t30 : tie.Need-cast-t30
+cast-t30 c = let Q = sums-of (c .before .before .before) in omega (arith, year (Y Q), s (Y Q) .pre .years .to)
+
+closeness-of-requires : tie.Need-closeness-of-requires
+closeness-of-requires c κs = let Q = sums-of (c .before .before .before) in file-whole (file (Y Q)) (s (Y Q) .pre)
+
+returns : tie.Need-returns
+returns c =
+    let A = c .before in
+    let T = A .before .before .before in
+    let Q = sums-of T in
+    let M = means-of Q in
+    let G = logs-of M in
+    let e = year (Y Q) in
+    gathered (file (Y Q)) (s (Y Q) .pre) _ e (c .closeness-of .ensures) (P Q .before .column-weights .ensures) (P Q .prior-weights .ensures)
+    (subst (λ n. OwnWeights (P Q .before .column-weights .result) (P Q .prior-weights .result) n (O Q .own-weights .result)) e (O Q .own-weights .ensures))
+    (R Q .ratio-weights .ensures) (subst (λ n. SharesOf (R Q .ratio-weights .result) n (S Q .shares .result)) e (S Q .shares .ensures))
+    (G .logarithms .ensures) (M .prior-means .ensures)
+    (subst (λ n. RatioSums (R Q .ratio-weights .result) (G .logarithms .result) n (Q .ratio-sums .result)) e (Q .ratio-sums .ensures))
+    (subst (λ n. Targets (P Q .prior-weights .result) (M .prior-means .result) (P Q .before .column-weights .result) (G .logarithms .result) (Q .ratio-sums .result) n (T .right-hand-of .result)) e (T .right-hand-of .ensures))
+    (subst (λ n. MatrixOf (O Q .own-weights .result) (S Q .shares .result) n (A .matrix-of .result)) e (A .matrix-of .ensures))
+
+pub figures-of-spec : {M : Type 1} → statement M
+figures-of-spec =
+    tie.close
+    (tie.spec
+    last-year-requires
+    column-weights-requires
+    prior-weights-requires
+    own-weights-requires
+    ratio-weights-requires
+    shares-requires
+    logarithms-requires
+    prior-means-requires
+    ratio-sums-requires
+    right-hand-of-requires
+    matrix-of-requires
+    cast-t30
+    closeness-of-requires
+    returns)
