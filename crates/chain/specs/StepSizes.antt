@@ -14,9 +14,9 @@ use Rattle.integers.specs.Floor.{floorDiv}
 use Rattle.definitions.specs.Words.{part}
 use Rattle.definitions.specs.Layout.{parts}
 use Rattle.definitions.specs.Refusals.{partLimit}
+use Rattle.laws.specs.StepLaws.{bringBack-inside}
 use Rattle.chain.specs.declared.figures.Working.{Working}
 use Rattle.chain.specs.Arrays.{meanOf, cell, system, heldRightHand, held}
-use Rattle.chain.specs.BroughtBack.{brought-inside}
 use Rattle.chain.specs.Fitting.{Fitting, Inside, rowLimit, rightHandLimit}
 use Rattle.chain.specs.Held.{held-difference, stepped, step-is, mean-set, followed-is, held-same}
 use Rattle.chain.specs.Sizes.{entry-at, cell-fits, residue-fits}
@@ -73,7 +73,7 @@ module _ {last : ℕ} {A : List ℤ} {w : Working} {k : ℕ} (h : Steps last A w
   -- ---- the part set anew
 
   pub fresh-small : natAbs (stepped A w k) ≤ partLimit
-  fresh-small = brought-inside (part (w .mean) k +ℤ floorDiv (cell A k k -ℤ pos 2 *ℤ part (w .residues) k) (natAbs (pos 2 *ℤ cell A k k)))
+  fresh-small = bringBack-inside (part (w .mean) k +ℤ floorDiv (cell A k k -ℤ pos 2 *ℤ part (w .residues) k) (natAbs (pos 2 *ℤ cell A k k)))
 
   pub change-small : natAbs (stepped A w k -ℤ part (w .mean) k) ≤ 2 * partLimit
   change-small = omega (arith, natAbs-- (stepped A w k) (part (w .mean) k), fresh-small, h .inside .small k (h .below))
