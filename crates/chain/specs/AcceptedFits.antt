@@ -1,39 +1,24 @@
 -- The figures of an accepted file fit, and its prior means are inside the limits: no sum wraps for a session that `open` made.
-use Prim.Native.Nat.{ℕ, _+_, _<_, min}
-use mathlib.Core.Path.{_≡_, refl, sym, ap, _∙_, subst}
+use Prim.Native.Nat.{ℕ, _<_}
+use mathlib.Core.Path.{_≡_, sym, ap, _∙_, subst}
 use mathlib.Core.Bool.{true}
 use mathlib.Core.List.{[]}
 use native.Mathlib.Omega.{arith}
-use borrow.Author.Tests.{eq-eqb}
-use lib.IntN.{pos, natAbs, _+ℤ_}
+use lib.IntN.{pos, natAbs}
 use lib.Signed.{_≤ℤ_}
-use Rattle.integers.specs.Linear.{linear, zarith}
-use Rattle.integers.specs.Order.{pos-nonneg, pos-≤, ≤ℤ-trans}
-use Rattle.integers.specs.SumOrder.{sum-nonneg}
+use Rattle.integers.specs.Order.{pos-≤}
 use Rattle.integers.specs.Total.{total-cong}
 use Rattle.definitions.specs.Words.{tabFrom, part}
 use Rattle.definitions.specs.Layout.{Bytes, lastYear, parts, priorMean}
-use Rattle.definitions.specs.Observations.{Chain, chainOf}
-use Rattle.definitions.specs.Matrix.{Part, Φ, Ψ, partOf, own, ownOf, matrix, rightHand, between, onDiagonal, sharedBy, figuresOf, entry}
+use Rattle.definitions.specs.Observations.{chainOf}
+use Rattle.definitions.specs.Matrix.{own, matrix, rightHand, figuresOf, entry}
 use Rattle.definitions.specs.Machine.{accepted}
 use Rattle.laws.specs.Accepted.{AcceptedFile, accepted-file}
+use Rattle.laws.specs.Diagonal.{diagonal-is}
 use Rattle.laws.specs.FileBounds.{file-owned}
 use Rattle.laws.specs.FileLimits.{file-limits, row-fits, right-hand-fits}
 use Rattle.laws.specs.Judged.{tab-at}
 use Rattle.chain.specs.Fitting.{Fitting, Inside}
-
--- a diagonal entry is the own weight and some of the g
-diagonal-from : (c : Chain) (a : Part) → pos (ownOf c a) ≤ℤ between c a a
-diagonal-from c a = by-kind a
-  where
-    with-shares : (n D m : ℕ) → pos D ≤ℤ (onDiagonal c n n D +ℤ sharedBy c m)
-    with-shares n D m =
-        let shares : pos 0 ≤ℤ sharedBy c m = sum-nonneg m (λ d _. pos-nonneg (c .g d)) in
-        rw (eq-eqb n n refl) (simp linear (omega zarith))
-
-    by-kind : (a : Part) → pos (ownOf c a) ≤ℤ between c a a
-    by-kind (Φ n) = with-shares n (ownOf c (Φ n)) (min n n)
-    by-kind (Ψ n) = with-shares n (ownOf c (Ψ n)) (min n n + 1)
 
 module _ (f : Bytes) (h : AcceptedFile f) where
   entry-of-file : (k l : ℕ) → k < parts (lastYear f) → l < parts (lastYear f) → entry (figuresOf f) k l ≡ matrix (chainOf f) k l
@@ -43,9 +28,8 @@ module _ (f : Bytes) (h : AcceptedFile f) where
       ∙ tab-at (parts (lastYear f)) (matrix (chainOf f) k) l (pos 0) l-below
 
   diagonal-positive : (k : ℕ) → k < parts (lastYear f) → pos 1 ≤ℤ matrix (chainOf f) k k
-  unfolding matrix own
   diagonal-positive k below =
-      ≤ℤ-trans (pos-≤ .0 (file-owned f h .owned k below)) (diagonal-from (chainOf f) (partOf (lastYear f) k))
+      subst (λ a. pos 1 ≤ℤ a) (sym (diagonal-is (chainOf f) k below)) (pos-≤ .0 (omega (arith, file-owned f h .owned k below)))
 
   pub file-fits : Fitting (figuresOf f)
   unfolding figuresOf
