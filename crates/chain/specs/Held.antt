@@ -4,19 +4,19 @@ use mathlib.Core.Path.{_≡_, refl, sym, ap, ap₂, _∙_}
 use mathlib.Core.List.{List, [], _∷_}
 use native.Mathlib.Decide.{ℕ-discrete}
 use native.Mathlib.Omega.{arith}
-use lib.IntN.{ℤ, pos, natAbs, _+ℤ_, _-ℤ_, _*ℤ_, +ℤ-invr}
+use lib.IntN.{ℤ, pos, natAbs, _+ℤ_, _-ℤ_, _*ℤ_}
 use lib.ListN.{length, set, length-set}
 use lib.Seq.{ext-getD, getD-set-same, getD-set-other}
-use Rattle.integers.specs.Solver.{ring, _⊞_, _⊟_, _⊠_, _≐_}
+use Rattle.integers.specs.Solver.{ring, _⊞_, _⊟_, _≐_}
 use Rattle.integers.specs.Size.{natAbs-*}
-use Rattle.integers.specs.Sum.{sum, sum--}
-use Rattle.integers.specs.SumRange.{sum-one}
+use Rattle.integers.specs.Sum.{sum}
 use Rattle.integers.specs.Floor.{floorDiv}
 use Rattle.definitions.specs.Words.{tabFrom, part}
 use Rattle.definitions.specs.Layout.{parts}
 use Rattle.definitions.specs.Matrix.{residue, entry}
 use Rattle.definitions.specs.Sweep.{bringBack, change, step}
 use Rattle.laws.specs.Judged.{tab-at, tabFrom-length}
+use Rattle.laws.specs.StepLaws.{sum-set}
 use Rattle.chain.specs.declared.figures.Working.{Working}
 use Rattle.chain.specs.Arrays.{meanOf, cell, system, heldRightHand, held}
 use Rattle.chain.specs.Sizes.{mean-at, entry-at, residue-at}
@@ -47,17 +47,6 @@ mean-set last v long k below z =
     by-place i i-below (no apart) =
         getD-set-other v k i z (pos 0) apart
         ∙ sym (getD-set-other (meanOf last v) k i z (pos 0) apart ∙ mean-at last v i i-below)
-
--- a sum of products where one factor is set anew
-pub sum-set : (n : ℕ) (f : ℕ → ℤ) (μ : List ℤ) → n ≤ length μ → (k : ℕ) → k < n → (z : ℤ)
-    → sum n (λ l. f l *ℤ part (set μ k z) l) ≡ sum n (λ l. f l *ℤ part μ l) +ℤ f k *ℤ (z -ℤ part μ k)
-sum-set n f μ long k below z =
-    let gain : sum n (λ l. f l *ℤ part (set μ k z) l -ℤ f l *ℤ part μ l) ≡ f k *ℤ (z -ℤ part μ k) =
-    sum-one n k below (λ l _ apart. ap (λ x. f l *ℤ x -ℤ f l *ℤ part μ l) (getD-set-other μ k l z (pos 0) apart) ∙ +ℤ-invr (f l *ℤ part μ l))
-    ∙ ap (λ x. f k *ℤ x -ℤ f k *ℤ part μ k) (getD-set-same μ k z (pos 0) (omega arith))
-    ∙ ring (f k ∷ z ∷ part μ k ∷ []) (λ a z m. a ⊠ z ⊟ a ⊠ m ≐ a ⊠ (z ⊟ m)) tt in
-    ring (sum n (λ l. f l *ℤ part (set μ k z) l) ∷ sum n (λ l. f l *ℤ part μ l) ∷ []) (λ s t. s ≐ t ⊞ (s ⊟ t)) tt
-    ∙ ap (λ x. sum n (λ l. f l *ℤ part μ l) +ℤ x) (sym (sum-- n (λ l. f l *ℤ part (set μ k z) l) (λ l. f l *ℤ part μ l)) ∙ gain)
 
 -- ---- a working mean
 
@@ -98,7 +87,7 @@ module _ (last : ℕ) (A : List ℤ) (w : Working) (long : parts last ≤ length
       let row : ℤ = sum (parts last) (λ l. cell A i l *ℤ part (w .mean) l) in
       let gain : ℤ = cell A i k *ℤ (z -ℤ part (w .mean) k) in
       ring (row ∷ gain ∷ part (w .residues) i ∷ []) (λ s g r. r ⊞ g ≐ (s ⊞ g) ⊟ (s ⊟ r)) tt
-      ∙ sym (ap₂ _-ℤ_ (sum-set (parts last) (cell A i) (w .mean) long k below z)
+      ∙ sym (ap₂ _-ℤ_ (sum-set (parts last) (cell A i) (w .mean) k below (omega arith) z)
       (tab-at (parts last) (λ k. sum (parts last) (λ l. cell A k l *ℤ part (w .mean) l) -ℤ part (w .residues) k) i (pos 0) i-below))
 
   pub held-same : (r : Working) → r .mean ≡ set (w .mean) k z
@@ -114,6 +103,6 @@ module _ (last : ℕ) (A : List ℤ) (w : Working) (long : parts last ≤ length
           let row : ℤ = sum (parts last) (λ l. cell A i l *ℤ part (w .mean) l) in
           let gain : ℤ = cell A i k *ℤ (z -ℤ part (w .mean) k) in
           ap₂ _-ℤ_
-          (ap (λ μ. sum (parts last) (λ l. cell A i l *ℤ part μ l)) mean-is ∙ sum-set (parts last) (cell A i) (w .mean) long k below z)
+          (ap (λ μ. sum (parts last) (λ l. cell A i l *ℤ part μ l)) mean-is ∙ sum-set (parts last) (cell A i) (w .mean) k below (omega arith) z)
           (residues-are i i-below)
           ∙ ring (row ∷ gain ∷ part (w .residues) i ∷ []) (λ s g r. (s ⊞ g) ⊟ (r ⊞ g) ≐ s ⊟ r) tt

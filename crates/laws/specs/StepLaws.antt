@@ -9,7 +9,7 @@ use native.Mathlib.Decide.{ℕ-discrete}
 use native.Mathlib.Omega.{arith}
 use lib.Dec.{T}
 use lib.IntN.{ℤ, pos, negℤ, natAbs, _+ℤ_, _-ℤ_, _*ℤ_}
-use lib.ListN.{length, length-set}
+use lib.ListN.{length, set, length-set}
 use lib.Seq.{getD-set-same, getD-set-other}
 use lib.Signed.{_≤ℤ_, _<ℤ_, ≤ℤ-refl, shrZ, ltZ, ltZ-yes, ltZ-no}
 use Rattle.integers.specs.Floor.{floor-≤, floor-<}
@@ -106,6 +106,16 @@ moved-falls A ρ v some inside =
 
 -- ---- the step of part k
 
+-- a sum of products where one factor is set anew
+pub sum-set : (n : ℕ) (f : ℕ → ℤ) (μ : List ℤ) (k : ℕ) → k < n → k < length μ → (z : ℤ)
+    → sum n (λ l. f l *ℤ part (set μ k z) l) ≡ sum n (λ l. f l *ℤ part μ l) +ℤ f k *ℤ (z -ℤ part μ k)
+sum-set n f μ k below there z =
+    sum-cong n (λ l _. ring (f l ∷ part (set μ k z) l ∷ part μ l ∷ []) (λ a v u. a ⊠ v ≐ a ⊠ u ⊞ a ⊠ (v ⊟ u)) tt)
+    ∙ sum-+ n (λ l. f l *ℤ part μ l) (λ l. f l *ℤ (part (set μ k z) l -ℤ part μ l))
+    ∙ ap (λ s. sum n (λ l. f l *ℤ part μ l) +ℤ s)
+    (sum-one n k below (λ l _ apart. ap (λ v. f l *ℤ (v -ℤ part μ l)) (getD-set-other μ k l z (pos 0) apart) ∙ ring (f l ∷ part μ l ∷ []) (λ a u. a ⊠ (u ⊟ u) ≐ num 0) tt)
+    ∙ ap (λ v. f k *ℤ (v -ℤ part μ k)) (getD-set-same μ k z (pos 0) there))
+
 module _ (F : Figures) (μ : List ℤ) (k : ℕ) (below : k < parts (F .last)) (there : k < length μ) where
   abbrev moved : ℤ
   moved = bringBack (part μ k +ℤ change F μ k)
@@ -135,12 +145,7 @@ module _ (F : Figures) (μ : List ℤ) (k : ℕ) (below : k < parts (F .last)) (
 
   -- the residues follow: the old plus the column times what is added
   pub step-residues : (i : ℕ) → residue F (part (step F k μ)) i ≡ residue F (part μ) i +ℤ entry F i k *ℤ added
-  unfolding residue
+  unfolding residue step
   step-residues i =
-      ap (λ s. s -ℤ part (F .rightHand) i)
-      (sum-cong (parts (F .last)) (λ l _. ring (entry F i l ∷ part (step F k μ) l ∷ part μ l ∷ []) (λ a v u. a ⊠ v ≐ a ⊠ u ⊞ a ⊠ (v ⊟ u)) tt)
-      ∙ sum-+ (parts (F .last)) (λ l. entry F i l *ℤ part μ l) (λ l. entry F i l *ℤ (part (step F k μ) l -ℤ part μ l))
-      ∙ ap (λ s. sum (parts (F .last)) (λ l. entry F i l *ℤ part μ l) +ℤ s)
-      (sum-one (parts (F .last)) k below (λ l _ apart. ap (λ v. entry F i l *ℤ (v -ℤ part μ l)) (step-elsewhere l apart) ∙ ring (entry F i l ∷ part μ l ∷ []) (λ a u. a ⊠ (u ⊟ u) ≐ num 0) tt)
-      ∙ ap (λ v. entry F i k *ℤ (v -ℤ part μ k)) step-at))
+      ap (λ s. s -ℤ part (F .rightHand) i) (sum-set (parts (F .last)) (entry F i) μ k below there moved)
       ∙ ring (sum (parts (F .last)) (λ l. entry F i l *ℤ part μ l) ∷ (entry F i k *ℤ added) ∷ part (F .rightHand) i ∷ []) (λ s a b. s ⊞ a ⊟ b ≐ s ⊟ b ⊞ a) tt
