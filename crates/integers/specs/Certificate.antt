@@ -9,7 +9,7 @@ use mathlib.Core.List.{[], _∷_}
 use Prim.Native.Nat.{ℕ, _*_, _≤_}
 use native.Mathlib.Nat.{le-refl}
 use lib.IntN.{ℤ, pos, negℤ, natAbs, _+ℤ_, _-ℤ_, _*ℤ_}
-use lib.Signed.{_≤ℤ_, _<ℤ_}
+use lib.Signed.{_≤ℤ_}
 use Rattle.integers.specs.Linear.{linear, zarith, natAbs-≤}
 use Rattle.integers.specs.Order.{≤ℤ-is-nonneg, pos-nonneg, +ℤ-nonneg, *ℤ-nonneg, square-nonneg}
 use Rattle.integers.specs.Size.{natAbs-*-≤, natAbs-square, natAbs-neg}
@@ -17,9 +17,6 @@ use Rattle.integers.specs.Solver.{ring, num, _⊞_, _⊟_, _⊠_, ⊖_, 
 
 pub excess : {a b s : ℤ} → b -ℤ a ≡ s → pos 0 ≤ℤ s → a ≤ℤ b
 excess e h = simp linear (omega (zarith, simp linear at e))
-
-pub excess-< : {a b s : ℤ} → b -ℤ a ≡ s → pos 0 <ℤ s → a <ℤ b
-excess-< e h = simp linear (omega (zarith, simp linear at e))
 
 pub ruleset nonneg = (square-nonneg, pos-nonneg, +ℤ-nonneg, *ℤ-nonneg)
 

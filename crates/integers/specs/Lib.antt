@@ -5,26 +5,23 @@
 --   simp linear (omega arith)                          what is linear, from hypotheses that are still arguments       Linear
 --   simp linear (omega (zarith, simp linear at h))     the same, from hypotheses with names                           Linear
 --   excess (ring .. (λ .. RIGHT ⊟ LEFT ≐ CERTIFICATE) tt) (search nonneg)      LEFT ≤ RIGHT, where it is not linear    Certificate
---                                                      (`excess-<` for LEFT < RIGHT)
 --
 -- Laws by kind:
 --   a number as a difference of naturals   Is, is, is-add, is-sub, is-neg, is-mul, is-unique; posPart, negPart         Ring
---   commutative ring       *ℤ-assoc, *ℤ-+ℤ, +ℤ-*ℤ, *ℤ-negℤ, negℤ-*ℤ, *ℤ-idl, *ℤ-idr, +ℤ-exchange, ≡ℤ-is-zero           Ring
---   linear order           ≤ℤ-trans, ≤ℤ-<ℤ-trans, <ℤ-trans, ≤ℤ-antisym, ≤ℤ-total, ≤ℤ-or-<ℤ, ≤ℤ-of-≡, ≤ℤ-of-<ℤ           Order
---   order as a difference  ≤ℤ-is-nonneg, <ℤ-is-positive, <ℤ-is-suc                                                     Order
+--   ring                   *ℤ-+ℤ, +ℤ-*ℤ, negℤ-*ℤ, *ℤ-idl, *ℤ-idr, +ℤ-exchange, ≡ℤ-is-zero                              Ring
+--   linear order           ≤ℤ-trans, ≤ℤ-total, ≤ℤ-or-<ℤ, ≤ℤ-of-≡, ≤ℤ-of-<ℤ                                              Order
+--   order as a difference  ≤ℤ-is-nonneg                                                                                Order
 --   order beside ℕ         pos-≤, pos-<, pos-nonneg, nonneg-pos                                                        Order
---   order of sums          +ℤ-mono, +ℤ-mono-<, negℤ-anti, +ℤ-nonneg, +ℤ-positive                                       Order
---   order of products      *ℤ-nonneg, *ℤ-positive, square-nonneg, square-positive, *ℤ-mono, *ℤ-mono-right, *ℤ-mono-<,
---                          *ℤ-mono-both, *ℤ-cancel, *ℤ-cancel-≤, *ℤ-cancel-<                                           Order
+--   order of sums          +ℤ-mono, negℤ-anti, +ℤ-nonneg                                                               Order
+--   order of products      *ℤ-nonneg, *ℤ-positive, square-nonneg, square-positive, *ℤ-mono                             Order
 --   a mixed term           mixed-≤, mixed-neg-≤                                                                        Certificate
 --   size                   natAbs-≤, natAbs-<, natAbs-parts                                                            Linear
---                          natAbs-neg, natAbs-+, natAbs--, natAbs-*, natAbs-*-≤, natAbs-square, ≤ℤ-natAbs, natAbs-≤ℤ   Size
+--                          natAbs-neg, natAbs-+, natAbs--, natAbs-*, natAbs-*-≤, natAbs-square                         Size
 --   signed bits            fits, kept                                                                                  Size
---   rounded down           floorDiv, floor-≤, floor-<, floor-unique                                                    Floor
+--   rounded down           floorDiv, floor-≤, floor-<                                                                  Floor
 --   sum, by one term       sum, sum-zero, sum-suc, sum-next                                                            Sum
 --   sum, term by term      sum-cong, sum-+, sum--, sum-neg, sum-scale, sum-scale-right, sum-const, sum-zeros           Sum
 --   double sums            sum-swap                                                                                    Sum
---                          sum-triangle, sum-triangle-only                                                             SumRange
 --   sum over a range       sum-split, sum-first, sum-reverse, sum-one; only, only-yes, only-no, sum-below, sum-from     SumRange
 --   sum and order          sum-mono, sum-nonneg, sum-term, sum-positive                                                SumOrder
 --   sum of naturals        total (in Sum), total-zero, total-suc, total-next, total-cong, total-+, total-scale-right,
@@ -33,8 +30,8 @@
 --
 -- Names. A law is named by its left side read in order, as in the kit: `*ℤ-+ℤ` is about x · (y + z), `negℤ-*ℤ` about (−x) · y; so of a sum or a
 -- size, `sum-+` is about the sum of f k + g k and `natAbs-*` about |a · b|. `-is-` states a ↔, whose halves are `.0` and `.1`; so do `pos-≤`, `pos-<`,
--- `natAbs-≤` and `natAbs-<`. `-next` is at n + 1, as code counts, and `-suc` at `suc n`. `-mono` keeps an order, `-anti` turns it, `-cancel` takes
--- it back. `-nonneg` ends in 0 ≤ .., `-positive` in 0 < ... `_≤ℤ_` and `_<ℤ_` bind tighter than `_+ℤ_`: their sides stand in parentheses.
+-- `natAbs-≤` and `natAbs-<`. `-next` is at n + 1, as code counts, and `-suc` at `suc n`. `-mono` keeps an order and `-anti` turns it.
+-- `-nonneg` ends in 0 ≤ .., `-positive` in 0 < ... `_≤ℤ_` and `_<ℤ_` bind tighter than `_+ℤ_`: their sides stand in parentheses.
 pub mod Certificate
 pub mod Floor
 pub mod Linear

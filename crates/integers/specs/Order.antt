@@ -8,8 +8,8 @@ use Prim.Native.Nat.{ℕ, suc, _*_, _≤_, _<_, zero-le, suc-le-suc}
 use native.Mathlib.Nat.{mul-pos}
 use native.Mathlib.Omega.{arith}
 use lib.Dec.{T}
-use lib.IntN.{ℤ, pos, negsuc, negℤ, natAbs, _+ℤ_, _-ℤ_, _*ℤ_, *ℤ-comm}
-use lib.Signed.{_≤ℤ_, _<ℤ_, ltZ, ltZ-yes, ltZ-no, clashℤ, yes-nonNeg, pos-natAbs}
+use lib.IntN.{ℤ, pos, negsuc, negℤ, natAbs, _+ℤ_, _-ℤ_, _*ℤ_}
+use lib.Signed.{_≤ℤ_, _<ℤ_, ltZ, ltZ-yes, ltZ-no, yes-nonNeg, pos-natAbs}
 use Rattle.integers.specs.Linear.{linear, zarith}
 use Rattle.integers.specs.Solver.{ring, _⊟_, _⊠_, _≐_}
 
@@ -17,15 +17,6 @@ use Rattle.integers.specs.Solver.{ring, _⊟_, _⊠_, _≐_}
 
 pub ≤ℤ-trans : {a b c : ℤ} → a ≤ℤ b → b ≤ℤ c → a ≤ℤ c
 ≤ℤ-trans h k = omega zarith
-
-pub ≤ℤ-<ℤ-trans : {a b c : ℤ} → a ≤ℤ b → b <ℤ c → a <ℤ c
-≤ℤ-<ℤ-trans h k = omega zarith
-
-pub <ℤ-trans : {a b c : ℤ} → a <ℤ b → b <ℤ c → a <ℤ c
-<ℤ-trans h k = omega zarith
-
-pub ≤ℤ-antisym : {a b : ℤ} → a ≤ℤ b → b ≤ℤ a → a ≡ b
-≤ℤ-antisym h k = omega zarith
 
 pub ≤ℤ-of-≡ : {a b : ℤ} → a ≡ b → a ≤ℤ b
 ≤ℤ-of-≡ e = omega zarith
@@ -42,9 +33,6 @@ pub ≤ℤ-or-<ℤ : (a b : ℤ) → (a ≤ℤ b) ⊎ (b <ℤ a)
 
 pub ≤ℤ-total : (a b : ℤ) → (a ≤ℤ b) ⊎ (b ≤ℤ a)
 ≤ℤ-total a b = ⊎-elim inl (λ h. inr (≤ℤ-of-<ℤ h)) (≤ℤ-or-<ℤ a b)
-
-pub <ℤ-is-suc : {a b : ℤ} → (a <ℤ b) ↔ ((a +ℤ pos 1) ≤ℤ b)
-<ℤ-is-suc {a} {b} = simp linear (omega arith)
 
 -- ---- beside the naturals
 
@@ -66,23 +54,14 @@ nonneg-pos {z} h = pos-natAbs z (yes-nonNeg h)
 pub ≤ℤ-is-nonneg : {a b : ℤ} → (a ≤ℤ b) ↔ (pos 0 ≤ℤ (b -ℤ a))
 ≤ℤ-is-nonneg {a} {b} = simp linear (omega arith)
 
-pub <ℤ-is-positive : {a b : ℤ} → (a <ℤ b) ↔ (pos 0 <ℤ (b -ℤ a))
-<ℤ-is-positive {a} {b} = simp linear (omega arith)
-
 pub +ℤ-mono : {a b c d : ℤ} → a ≤ℤ b → c ≤ℤ d → (a +ℤ c) ≤ℤ (b +ℤ d)
 +ℤ-mono h k = simp linear (omega zarith)
-
-pub +ℤ-mono-< : {a b c d : ℤ} → a <ℤ b → c ≤ℤ d → (a +ℤ c) <ℤ (b +ℤ d)
-+ℤ-mono-< h k = simp linear (omega zarith)
 
 pub negℤ-anti : {a b : ℤ} → a ≤ℤ b → negℤ b ≤ℤ negℤ a
 negℤ-anti h = simp linear (omega zarith)
 
 pub +ℤ-nonneg : {a b : ℤ} → pos 0 ≤ℤ a → pos 0 ≤ℤ b → pos 0 ≤ℤ (a +ℤ b)
 +ℤ-nonneg h k = simp linear (omega zarith)
-
-pub +ℤ-positive : {a b : ℤ} → pos 0 <ℤ a → pos 0 ≤ℤ b → pos 0 <ℤ (a +ℤ b)
-+ℤ-positive h k = simp linear (omega zarith)
 
 -- ---- products
 
@@ -107,26 +86,6 @@ square-positive {a = pos n} h = pos-< .0 (mul-pos positive positive)
     positive = let ne : n ≢ 0 = λ e. h (ap pos e) in omega arith
 square-positive {a = negsuc n} h = pos-< .0 (mul-pos (suc-le-suc zero-le) (suc-le-suc zero-le))
 
--- by a factor that is not negative, on the left and on the right
+-- by a factor that is not negative
 pub *ℤ-mono : {a b c : ℤ} → pos 0 ≤ℤ c → a ≤ℤ b → (c *ℤ a) ≤ℤ (c *ℤ b)
 *ℤ-mono {a} {b} {c} h k = ≤ℤ-is-nonneg .1 (rw (← ring (a ∷ b ∷ c ∷ []) (λ a b c. c ⊠ (b ⊟ a) ≐ c ⊠ b ⊟ c ⊠ a) tt) (*ℤ-nonneg h (≤ℤ-is-nonneg .0 k)))
-
-pub *ℤ-mono-right : {a b c : ℤ} → pos 0 ≤ℤ c → a ≤ℤ b → (a *ℤ c) ≤ℤ (b *ℤ c)
-*ℤ-mono-right {a} {b} {c} h k = rw (*ℤ-comm a c, *ℤ-comm b c) (*ℤ-mono h k)
-
-pub *ℤ-mono-< : {a b c : ℤ} → pos 0 <ℤ c → a <ℤ b → (c *ℤ a) <ℤ (c *ℤ b)
-*ℤ-mono-< {a} {b} {c} h k = <ℤ-is-positive .1 (rw (← ring (a ∷ b ∷ c ∷ []) (λ a b c. c ⊠ (b ⊟ a) ≐ c ⊠ b ⊟ c ⊠ a) tt) (*ℤ-positive h (<ℤ-is-positive .0 k)))
-
--- both factors grow
-pub *ℤ-mono-both : {a b c d : ℤ} → pos 0 ≤ℤ a → a ≤ℤ b → pos 0 ≤ℤ c → c ≤ℤ d → (a *ℤ c) ≤ℤ (b *ℤ d)
-*ℤ-mono-both p h q k = ≤ℤ-trans (*ℤ-mono-right q h) (*ℤ-mono (≤ℤ-trans p h) k)
-
--- a positive factor cancels
-pub *ℤ-cancel-≤ : {c : ℤ} (a b : ℤ) → pos 0 <ℤ c → (c *ℤ a) ≤ℤ (c *ℤ b) → a ≤ℤ b
-*ℤ-cancel-≤ a b h k = ⊎-elim (λ p. p) (λ q. clashℤ (*ℤ-mono-< h q) k) (≤ℤ-or-<ℤ a b)
-
-pub *ℤ-cancel-< : {c : ℤ} (a b : ℤ) → pos 0 ≤ℤ c → (c *ℤ a) <ℤ (c *ℤ b) → a <ℤ b
-*ℤ-cancel-< a b h k = ⊎-elim (λ p. clashℤ k (*ℤ-mono h p)) (λ q. q) (≤ℤ-or-<ℤ b a)
-
-pub *ℤ-cancel : {c : ℤ} (a b : ℤ) → pos 0 <ℤ c → c *ℤ a ≡ c *ℤ b → a ≡ b
-*ℤ-cancel a b h e = ≤ℤ-antisym (*ℤ-cancel-≤ a b h (≤ℤ-of-≡ e)) (*ℤ-cancel-≤ b a h (≤ℤ-of-≡ (sym e)))

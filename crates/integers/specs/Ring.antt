@@ -1,4 +1,4 @@
--- The commutative ring laws of ℤ that `lib.IntN` lacks. Each is shown by reading its numbers as differences of naturals:
+-- Ring laws of ℤ that `lib.IntN` lacks. Each is shown by reading its numbers as differences of naturals:
 -- `Is z a b` says z = a − b, it goes through sum, negation and product, and two readings with equal cross sums are one number.
 use mathlib.Core.Path.{_≡_, _∙_, ap}
 use mathlib.Core.Logic.{_↔_}
@@ -66,17 +66,11 @@ is-mul-parts (negsuc m) (negsuc n) = record { cross = omega arith }
 pub is-mul : {x y : ℤ} {a b c d : ℕ} → Is x a b → Is y c d → Is (x *ℤ y) (a * c + b * d) (a * d + b * c)
 is-mul {x} {y} {a} {b} {c} {d} h k = is-shift (is-mul-parts x y) (omega (arith, ap (λ t. t * posPart y) (h .cross), ap (λ t. t * negPart y) (h .cross), ap (λ t. t * a) (k .cross), ap (λ t. t * b) (k .cross)))
 
-pub *ℤ-assoc : (x y z : ℤ) → (x *ℤ y) *ℤ z ≡ x *ℤ (y *ℤ z)
-*ℤ-assoc x y z = is-unique (is-mul (is-mul (is x) (is y)) (is z)) (is-mul (is x) (is-mul (is y) (is z))) (omega arith)
-
 pub *ℤ-+ℤ : (x y z : ℤ) → x *ℤ (y +ℤ z) ≡ x *ℤ y +ℤ x *ℤ z
 *ℤ-+ℤ x y z = is-unique (is-mul (is x) (is-add (is y) (is z))) (is-add (is-mul (is x) (is y)) (is-mul (is x) (is z))) (omega arith)
 
 pub +ℤ-*ℤ : (x y z : ℤ) → (x +ℤ y) *ℤ z ≡ x *ℤ z +ℤ y *ℤ z
 +ℤ-*ℤ x y z = is-unique (is-mul (is-add (is x) (is y)) (is z)) (is-add (is-mul (is x) (is z)) (is-mul (is y) (is z))) (omega arith)
-
-pub *ℤ-negℤ : (x y : ℤ) → x *ℤ negℤ y ≡ negℤ (x *ℤ y)
-*ℤ-negℤ x y = is-unique (is-mul (is x) (is-neg (is y))) (is-neg (is-mul (is x) (is y))) (omega arith)
 
 pub negℤ-*ℤ : (x y : ℤ) → negℤ x *ℤ y ≡ negℤ (x *ℤ y)
 negℤ-*ℤ x y = is-unique (is-mul (is-neg (is x)) (is y)) (is-neg (is-mul (is x) (is y))) (omega arith)

@@ -2,14 +2,14 @@
 -- by `natAbs-≤` of `Linear`, and `natAbs (pos n)` computes.
 use mathlib.Core.Path.{_≡_, refl, sym, _∙_, subst}
 use Prim.Native.Nat.{ℕ, zero, suc, _+_, _*_, _^_, _≤_, _<_}
-use native.Mathlib.Nat.{le-refl, mul-le-mul}
+use native.Mathlib.Nat.{mul-le-mul}
 use native.Mathlib.Omega.{arith}
 use lib.IntN.{ℤ, pos, negsuc, negℤ, natAbs, _+ℤ_, _-ℤ_, _*ℤ_}
-use lib.Signed.{_≤ℤ_, mag}
+use lib.Signed.{mag}
 use mir.Syntax.{Width}
 use mir.Val.{SFits, toZ, ofZ, hbits}
 use mir.Facts.{toZ-ofZ}
-use Rattle.integers.specs.Linear.{linear, natAbs-parts, natAbs-≤}
+use Rattle.integers.specs.Linear.{linear, natAbs-parts}
 
 pub natAbs-neg : (a : ℤ) → natAbs (negℤ a) ≡ natAbs a
 natAbs-neg (pos zero) = refl
@@ -31,12 +31,6 @@ natAbs-* (negsuc m) (negsuc n) = refl
 pub natAbs-square : (a : ℤ) → pos (natAbs a * natAbs a) ≡ a *ℤ a
 natAbs-square (pos n) = refl
 natAbs-square (negsuc n) = refl
-
-pub ≤ℤ-natAbs : (a : ℤ) → a ≤ℤ pos (natAbs a)
-≤ℤ-natAbs a = natAbs-≤ a (natAbs a) .0 (le-refl (natAbs a)) .0
-
-pub natAbs-≤ℤ : (a : ℤ) → negℤ (pos (natAbs a)) ≤ℤ a
-natAbs-≤ℤ a = natAbs-≤ a (natAbs a) .0 (le-refl (natAbs a)) .1
 
 pub natAbs-*-≤ : (a b : ℤ) {m n : ℕ} → natAbs a ≤ m → natAbs b ≤ n → natAbs (a *ℤ b) ≤ m * n
 natAbs-*-≤ a b h k = rw (natAbs-* a b) (mul-le-mul h k)

@@ -8,7 +8,7 @@ use native.Mathlib.Omega.{arith}
 use lib.Dec.{T, leb, ltb, le→leb, lt→ltb}
 use lib.Arith.{lt→nleb, le→nltb}
 use lib.IntN.{ℤ, pos, _+ℤ_, +ℤ-assoc, +ℤ-comm, +ℤ-idl, +ℤ-idr}
-use Rattle.integers.specs.Sum.{sum, sum-cong, sum-zeros, sum-swap}
+use Rattle.integers.specs.Sum.{sum, sum-cong, sum-zeros}
 
 abbrev pub only : Bool → ℤ → ℤ
 only b z = cond b z (pos 0)
@@ -81,11 +81,3 @@ sum-from n m f l =
     (sum-zeros m (λ k l. only-no (leb m k) (f k) (lt→nleb m k l)))
     (sum-cong (n - m) (λ k l. only-yes (leb m (m + k)) (f (m + k)) (le→leb m (m + k) (omega arith))))
     ∙ +ℤ-idl (sum (n - m) (λ k. f (m + k)))
-
--- ---- a double sum over the pairs j < i < n, by i and by j
-
-pub sum-triangle-only : (n : ℕ) (f : ℕ → ℕ → ℤ) → sum n (λ i. sum i (λ j. f i j)) ≡ sum n (λ j. sum n (λ i. only (ltb j i) (f i j)))
-sum-triangle-only n f = sum-cong n (λ i l. sym (sum-below n i (f i) (omega arith))) ∙ sum-swap n n (λ i j. only (ltb j i) (f i j))
-
-pub sum-triangle : (n : ℕ) (f : ℕ → ℕ → ℤ) → sum n (λ i. sum i (λ j. f i j)) ≡ sum n (λ j. sum (n - suc j) (λ i. f (suc j + i) j))
-sum-triangle n f = sum-triangle-only n f ∙ sum-cong n (λ j l. sum-from n (suc j) (λ i. f i j) l)
