@@ -1,0 +1,10 @@
+pub mod Bounds
+pub mod State
+pub mod Fitted
+pub mod Diagonal
+pub mod Calls
+pub mod CallLaws
+pub mod MeanOfRecord
+pub mod SweepCall
+pub mod OpenCall
+pub mod Reached

@@ -1,0 +1,68 @@
+-- The sweeps of a call on a session that fits are the machine's.
+use Prim.Native.Nat.{ℕ, _≤_, _<_}
+use mathlib.Core.Path.{_≡_, refl, sym, ap, subst, _∙_}
+use mathlib.Core.Bool.{Bool, true, false}
+use mathlib.Core.List.{List}
+use lib.IntN.{ℤ}
+use Rattle.definitions.specs.Words.{part, within}
+use Rattle.definitions.specs.Matrix as D
+use Rattle.definitions.specs.Matrix.{passes}
+use Rattle.definitions.specs.Sweep.{sweeps, sweepLimit}
+use Rattle.laws.specs.MachineLaws.{sweeps-total}
+use Rattle.layout.specs.CheckLaws.{within-yes}
+use Rattle.chain.specs.declared.figures.Working.{Working}
+use Rattle.chain.specs.declared.sweep.Swept.{Swept}
+use Rattle.chain.specs.Arrays.{figuresOf, meanOf}
+use Rattle.chain.specs.Judge.{Passes}
+use Rattle.chain.specs.Sweeps.{Started, SweptTo, passes-is}
+use Rattle.session.specs.declared.Session.{Session}
+use Rattle.session.specs.declared.answers.SweepAnswer.the-variants.{Settled, Going, Refused}
+use Rattle.session.specs.State.{Fits, stateOf-held}
+use Rattle.session.specs.Calls.{OpenSweep, Sweeps}
+use Rattle.session.specs.CallLaws.{sweeps-settled, sweeps-spent, sweeps-done, sweeps-going}
+
+module _ (s : Session) (n : ℕ) (h : OpenSweep s n) (w : Working) (start : Started (s .figures) (s .mean) w) where
+  abbrev F : D.Figures
+  F = figuresOf (s .figures)
+
+  abbrev μ : List ℤ
+  μ = meanOf (s .figures .last) (s .mean)
+
+  inside : within 1 sweepLimit n ≡ true
+  inside = within-yes refl (h .from) (h .to)
+
+  module _ {p : Bool} (tested : Passes (s .figures .last) (s .figures .closeness) (s .figures .own) (w .residues) p) where
+    -- the mean that is held passes or fails as its residues do
+    held-passes : passes F (part μ) ≡ p
+    held-passes = ap (λ m. passes F (part (meanOf (s .figures .last) m))) (sym (start .mean)) ∙ sym (passes-is (s .figures) w (start .holds) tested)
+
+    pub settled : p ≡ true → Sweeps s n (record { answer = Settled (s .total); session = s })
+    settled e = sweeps-settled s n (h .fits) inside (held-passes ∙ e)
+
+    module _ (fails : p ≡ false) where
+      pub spent : sweepLimit ≤ s .total → Sweeps s n (record { answer = Refused 23 0; session = s })
+      spent most = sweeps-spent s n (h .fits) inside (held-passes ∙ fails) most
+
+      module _ (more : s .total < sweepLimit) {r : Swept} (swept : SweptTo (s .figures) w (s .total) n r) where
+        abbrev after : Session
+        after = record { held = true; figures = s .figures; mean = r .working .mean; total = r .total }
+
+        abbrev ν : List ℤ
+        ν = meanOf (s .figures .last) (r .working .mean)
+
+        end : sweeps F n μ (s .total) ≡ record { mean = ν; swept = r .total }
+        end = ap (λ m. sweeps F n (meanOf (s .figures .last) m) (s .total)) (sym (start .mean)) ∙ sym (swept .is)
+
+        after-fits : Fits after
+        after-fits = record {
+          holding = refl;
+          fitting = h .fits .fitting;
+          inside = swept .holds .inside;
+          few = subst (λ t. t ≤ sweepLimit) (ap (λ x. x .swept) end) (sweeps-total F n μ (s .total) (h .fits .few));
+        }
+
+        pub done : r .passes ≡ true → Sweeps s n (record { answer = Settled (r .total); session = after })
+        done e = sweeps-done s n (h .fits) inside (held-passes ∙ fails) more after ν (stateOf-held after after-fits) end (sym (swept .passing) ∙ e)
+
+        pub still-going : r .passes ≡ false → Sweeps s n (record { answer = Going (r .total); session = after })
+        still-going e = sweeps-going s n (h .fits) inside (held-passes ∙ fails) more after ν (stateOf-held after after-fits) end (sym (swept .passing) ∙ e)

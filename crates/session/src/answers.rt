@@ -1,0 +1,24 @@
+// What the calls answer. A refusal has document 01's number and place.
+pub enum OpenAnswer {
+    Opened,
+    Refused(u64, usize),
+}
+
+pub enum JudgeAnswer {
+    Passed,
+    // The first part that fails.
+    Fails(usize),
+    Refused(u64, usize),
+}
+
+// With the total of sweeps run since open.
+pub enum SweepAnswer {
+    Settled(u64),
+    Going(u64),
+    Refused(u64, usize),
+}
+
+pub enum ReadAnswer {
+    Written,
+    Refused(u64, usize),
+}
