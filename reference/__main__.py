@@ -117,7 +117,7 @@ def parser() -> argparse.ArgumentParser:
     called.add_argument("script", metavar="SCRIPT", help="a script of calls, or - for standard input")
     made = command("vectors", run_vectors, "write the vectors, or check the written ones")
     made.add_argument("--seed", type=int, default=vectors.DEFAULT_SEED, help="default %(default)s")
-    made.add_argument("--out", type=Path, default=vectors.FOLDER, metavar="DIR", help="default: vectors/")
+    made.add_argument("--out", type=Path, default=vectors.ROOT, metavar="DIR", help="default: the repository")
     made.add_argument("--check", action="store_true", help="fail where one differs or is missing")
     drawn = command("random", run_random, "write drawn vectors for a longer comparison")
     drawn.add_argument("--seed", type=int, required=True)

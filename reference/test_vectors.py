@@ -4,7 +4,9 @@ import tempfile
 import unittest
 from pathlib import Path
 
+import paper
 import vectors
+from layout import build_file
 
 
 class Made(unittest.TestCase):
@@ -13,17 +15,17 @@ class Made(unittest.TestCase):
         cls.made = vectors.make(vectors.DEFAULT_SEED)
 
     def listing(self, name: str) -> list[str]:
-        return self.made[f"listing/{name}.out"].decode().splitlines()
+        return self.made[f"listing/{name}"].printed.decode().splitlines()
 
     def test_every_refusal_number_is_in_the_script(self) -> None:
-        lines = self.made["calls.out"].decode().splitlines()
+        lines = self.made["calls/scenes"].printed.decode().splitlines()
         numbers = {int(line.split()[1]) for line in lines if line.startswith("refused")}
         # 16 needs a zero on the diagonal, which no file that passes 1 to 10 has.
         self.assertEqual(numbers, {*range(1, 16), 21, 22, 23, 24})
         self.assertNotIn("script", lines)
 
     def test_some_hundred_sessions(self) -> None:
-        self.assertGreater(self.made["calls.out"].count(b"opened\n"), 100)
+        self.assertGreater(self.made["calls/scenes"].printed.count(b"opened\n"), 100)
 
     def test_listings(self) -> None:
         self.assertEqual(self.listing("f")[1], "sweeps 0")
@@ -44,13 +46,19 @@ class Made(unittest.TestCase):
 
     def test_lengths(self) -> None:
         for name, length in (("0", 0), ("2806", 2_806), ("2807", 2_807), ("100000", 100_000)):
-            self.assertEqual(len(self.made[f"listing/length-{name}.in"]), length)
+            self.assertEqual(len(self.made[f"listing/length-{name}"].given), length)
         self.assertEqual(self.listing("length-2806")[0], "J 15")
         for name in ("0", "2807", "2807-counted", "100000"):
             self.assertEqual(self.listing(f"length-{name}"), ["refused 1 at 0"])
 
+    def test_sample(self) -> None:
+        """What `python3 reference sample` writes is the vector that is kept as the sample."""
+        sample = self.made["listing/tables-256"]
+        self.assertEqual(sample.given, build_file(paper.tables_file(256)))
+        self.assertEqual(vectors.paths("listing/tables-256")[0], "samples/tables-10-11.file")
+
     def test_small_enough_to_keep(self) -> None:
-        self.assertLess(sum(map(len, self.made.values())), 1_500_000)
+        self.assertLess(sum(len(vector.given + vector.printed) for vector in self.made.values()), 1_500_000)
 
     def test_made_again_they_are_the_same(self) -> None:
         self.assertEqual(vectors.make(vectors.DEFAULT_SEED), self.made)
@@ -58,7 +66,17 @@ class Made(unittest.TestCase):
 
 
 class Comparison(unittest.TestCase):
-    MADE = {"listing/a.in": b"1", "listing/a.out": b"2", "calls.in": b"3", "calls.out": b"4"}
+    MADE = {"listing/f": vectors.Vector(b"1", b"2"), "script/a": vectors.Vector(b"3", b"4")}
+
+    def test_where_each_is_kept(self) -> None:
+        with tempfile.TemporaryDirectory() as name:
+            root = Path(name)
+            vectors.write(root, self.MADE)
+            kept = {path.relative_to(root).as_posix(): path.read_bytes() for path in root.rglob("*") if path.is_file()}
+        self.assertEqual(kept, {
+            "crates/listing/stdin": b"1", "crates/listing/stdout": b"2",
+            "vectors/script/a.in": b"3", "vectors/script/a.out": b"4",
+        })
 
     def test_written_vectors_agree(self) -> None:
         with tempfile.TemporaryDirectory() as name:
@@ -67,23 +85,22 @@ class Comparison(unittest.TestCase):
 
     def test_what_differs_is_named(self) -> None:
         with tempfile.TemporaryDirectory() as name:
-            folder = Path(name)
-            vectors.write(folder, self.MADE)
-            (folder / "calls.out").write_bytes(b"5")
-            (folder / "listing" / "a.in").unlink()
-            (folder / "listing" / "b.in").write_bytes(b"")
-            self.assertEqual(vectors.differences(folder, self.MADE), [
-                f"{folder / 'listing' / 'a.in'}: missing",
-                f"{folder / 'calls.out'}: differs",
-                f"{folder / 'listing' / 'b.in'}: no such vector is made",
+            root = Path(name)
+            vectors.write(root, self.MADE)
+            (root / "crates" / "listing" / "stdout").write_bytes(b"5")
+            (root / "vectors" / "script" / "a.in").unlink()
+            (root / "vectors" / "script" / "b.in").write_bytes(b"")
+            self.assertEqual(vectors.differences(root, self.MADE), [
+                f"{root / 'crates' / 'listing' / 'stdout'}: differs",
+                f"{root / 'vectors' / 'script' / 'a.in'}: missing",
+                f"{root / 'vectors' / 'script' / 'b.in'}: no such vector is made",
             ])
 
     def test_random_vectors(self) -> None:
         made = vectors.make_random(3, 4)
-        listings = {f"listing/{k}.{end}" for k in range(1, 5) for end in ("in", "out")}
-        self.assertEqual(set(made), listings | {"calls.in", "calls.out"})
+        self.assertEqual(set(made), {f"{folder}/{k}" for folder in ("listing", "calls") for k in range(1, 5)})
         self.assertEqual(made, vectors.make_random(3, 4))
-        self.assertNotIn(b"script", made["calls.out"])
+        self.assertFalse([name for name, vector in made.items() if b"script" in vector.printed])
 
 
 if __name__ == "__main__":

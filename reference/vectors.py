@@ -1,10 +1,13 @@
-"""The vectors: inputs and expected outputs of the programs `listing` and `calls`, made from a seed.
+"""The vectors: inputs and expected outputs of the programs `listing` and `calls`, made from a seed. By name:
 
-    listing/NAME.in, NAME.out    a file, and what the listing prints for it
-    script/NAME.in, NAME.out     a script that ends early, and what is printed before it does
-    calls.in, calls.out          a script of calls, and its answers
+    listing/NAME    a file, and what the listing prints for it
+    script/NAME     a script of calls that ends early, and what is printed before it does
+    calls/scenes    a script of calls, and its answers
+
+Each is kept as vectors/NAME.in and NAME.out, but for those of ELSEWHERE.
 """
 
+from dataclasses import dataclass
 from io import BytesIO
 from pathlib import Path
 from random import Random
@@ -15,60 +18,83 @@ import vectors_listing
 from listing import listing
 
 DEFAULT_SEED = 1
-FOLDER = Path(__file__).resolve().parent.parent / "vectors"
+ROOT = Path(__file__).resolve().parent.parent
+# Those that `rt ci` runs are kept in the programs' crates, and the sample where a reader finds it.
+ELSEWHERE = {
+    "listing/f": ("crates/listing/stdin", "crates/listing/stdout"),
+    "calls/scenes": ("crates/calls/stdin", "crates/calls/stdout"),
+    "listing/tables-256": ("samples/tables-10-11.file", "samples/tables-10-11.listing"),
+}
 
-Vectors = dict[str, bytes]  # by path inside the folder
+
+@dataclass(frozen=True)
+class Vector:
+    given: bytes
+    printed: bytes
+
+
+Vectors = dict[str, Vector]  # by name
 
 
 def make(seed: int) -> Vectors:
     return {
-        **_listing_vectors("listing", vectors_listing.listing_inputs(seed)),
-        **_calls_vectors({f"script/{name}": given for name, given in vectors_calls.script_ends().items()}),
-        **_calls_vectors({"calls": vectors_calls.script_of_scenes(seed)}),
+        **_listings(vectors_listing.listing_inputs(seed)),
+        **_scripts("script", vectors_calls.script_ends()),
+        **_scripts("calls", {"scenes": vectors_calls.script_of_scenes(seed)}),
     }
 
 
 def make_random(seed: int, count: int) -> Vectors:
-    """For long comparisons: so many listings and so many sessions, all drawn, in the same folders."""
+    """For long comparisons: so many listings and so many sessions, all drawn."""
     rng = Random(f"random {seed}")
-    width = len(str(count))
-    inputs = {f"{k:0{width}}": vectors_listing.drawn_listing_input(rng) for k in range(1, count + 1)}
-    sessions = b"".join(call for _ in range(count) for call in vectors_calls.drawn_session(rng))
-    return {**_listing_vectors("listing", inputs), **_calls_vectors({"calls": sessions})}
+    numbers = [f"{k:0{len(str(count))}}" for k in range(1, count + 1)]
+    return {
+        **_listings({number: vectors_listing.drawn_listing_input(rng) for number in numbers}),
+        **_scripts("calls", {number: b"".join(vectors_calls.drawn_session(rng)) for number in numbers}),
+    }
 
 
-def write(folder: Path, made: Vectors) -> None:
-    for name, content in made.items():
-        path = folder / name
+def paths(name: str) -> tuple[str, str]:
+    """Where a vector's input and output are kept, from the root of the repository."""
+    return ELSEWHERE.get(name, (f"vectors/{name}.in", f"vectors/{name}.out"))
+
+
+def write(root: Path, made: Vectors) -> None:
+    for name, content in _files(made).items():
+        path = root / name
         path.parent.mkdir(parents=True, exist_ok=True)
         path.write_bytes(content)
 
 
-def differences(folder: Path, made: Vectors) -> list[str]:
-    """One line for each vector that is missing, differs, or is there and no longer made."""
-    lines = []
-    for name, content in made.items():
-        path = folder / name
+def differences(root: Path, made: Vectors) -> list[str]:
+    """One line for each file that is missing, differs, or is there and no longer made."""
+    lines, files = [], _files(made)
+    for name, content in files.items():
+        path = root / name
         if not path.is_file():
             lines.append(f"{path}: missing")
         elif path.read_bytes() != content:
             lines.append(f"{path}: differs")
-    there = (path for pattern in ("**/*.in", "**/*.out") for path in folder.glob(pattern))
-    strays = sorted(path for path in there if path.relative_to(folder).as_posix() not in made)
+    there = (path for end in ("in", "out") for path in root.glob(f"vectors/**/*.{end}"))
+    strays = sorted(path for path in there if path.relative_to(root).as_posix() not in files)
     return lines + [f"{path}: no such vector is made" for path in strays]
 
 
-def _listing_vectors(folder: str, inputs: dict[str, bytes]) -> Vectors:
-    made: Vectors = {}
-    for name, given in inputs.items():
-        made[f"{folder}/{name}.in"] = given
-        made[f"{folder}/{name}.out"] = listing(given).encode()
-    return made
+def _files(made: Vectors) -> dict[str, bytes]:
+    files = {}
+    for name, vector in made.items():
+        given, printed = paths(name)
+        files |= {given: vector.given, printed: vector.printed}
+    return files
 
 
-def _calls_vectors(scripts: dict[str, bytes]) -> Vectors:
-    made: Vectors = {}
-    for name, given in scripts.items():
-        made[f"{name}.in"] = given
-        made[f"{name}.out"] = "".join(line + "\n" for line in script.answers(BytesIO(given))).encode()
-    return made
+def _listings(inputs: dict[str, bytes]) -> Vectors:
+    return {f"listing/{name}": Vector(given, listing(given).encode()) for name, given in inputs.items()}
+
+
+def _scripts(folder: str, scripts: dict[str, bytes]) -> Vectors:
+    return {f"{folder}/{name}": Vector(given, answers(given)) for name, given in scripts.items()}
+
+
+def answers(given: bytes) -> bytes:
+    return "".join(line + "\n" for line in script.answers(BytesIO(given))).encode()
