@@ -44,6 +44,11 @@ def make(seed: int) -> Vectors:
     }
 
 
+def make_lengths() -> Vectors:
+    """Too long to be kept: a file of every length."""
+    return _scripts("calls", {"lengths": b"".join(vectors_calls.every_length())})
+
+
 def make_random(seed: int, count: int) -> Vectors:
     """For long comparisons: so many listings and so many sessions, all drawn."""
     rng = Random(f"random {seed}")

@@ -257,6 +257,16 @@ def damaged_files(rng: Random) -> Iterator[bytes]:
 # Drawn sessions.
 
 
+def every_length() -> Iterator[bytes]:
+    """The longest file and one byte more, cut to every length: as it is, and with a length word that counts it right."""
+    longest = build_file(samples.many_sweeps(LARGEST_YEAR)) + b"\x00"
+    for length in range(len(longest) + 1):
+        lent = longest[:length]
+        yield call_open(lent) + CLOSE
+        if length >= 4:
+            yield call_open(layout.with_length(lent[4:])) + CLOSE
+
+
 def drawn_session(rng: Random) -> Iterator[bytes]:
     """Some dozens of calls, mostly on one file of few years, now and then on a longer one."""
     file = samples.drawn_file(rng, rng.choice((1, 1, 2, 2, 3, 4, 6, rng.randint(1, LARGEST_YEAR))))

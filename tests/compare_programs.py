@@ -1,7 +1,8 @@
 """The programs `listing` and `calls` against the reference, to the byte.
 
-First every vector, then listings and sessions that the reference draws from a seed. Then what a whole input at once does
-not show: that the listing takes its input in pieces, and that `calls` answers each call before it reads the next.
+First every vector and a file of every length, then listings and sessions that the reference draws from a seed. Then what a
+whole input at once does not show: that the listing takes its input in pieces, and that `calls` answers each call before it
+reads the next.
 """
 
 import argparse
@@ -111,6 +112,7 @@ def complaints_of_a_session(folder: Path, calls: list[bytes]) -> Iterator[str]:
 def all_complaints(folder: Path, seed: int, count: int) -> Iterator[str]:
     made = vectors.make(vectors.DEFAULT_SEED)
     yield from complaints_at_once(folder, made)
+    yield from complaints_at_once(folder, vectors.make_lengths())
     yield from complaints_at_once(folder, vectors.make_random(seed, count))
     for name in ("f", "length-2806", "length-2807", "refused-09-highest"):
         for size in (1, 7, 2_806):
