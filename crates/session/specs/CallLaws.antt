@@ -92,11 +92,14 @@ module _ (s : Session) (r : Bytes) where
   -- every answer that is the machine's carries what it is worth
   judges : (a : JudgeAnswer) → C.ofJudge a ≡ judgesTo (stateOf s) r → Judges s r a
   unfolding judgeCall
-  judges a e = record { answer = e; worth = λ f μ total yes-file st passing.
-      let now-passed : judged passed ≡ judgesTo (holds (D.figuresOf f) μ total) r = sym (ap C.ofJudge passing) ∙ e ∙ ap (λ x. judgesTo x r) st in
-      let verdict : judgement (D.figuresOf f) (part (meanOf (D.figuresOf f .last) r)) ≡ passed = judged-same (refused-or (recordCheck (D.figuresOf f .last) r) _ passed (sym now-passed)) in
-      worth f yes-file (meanOf (lastYear f) r)
-      (ap isPassed (ap (λ J. judgement (D.figuresOf f) (part (meanOf J r))) (sym (figures-year f)) ∙ verdict)) }
+  judges a e = record {
+    answer = e;
+    worth = λ f μ total yes-file st passing.
+        let now-passed : judged passed ≡ judgesTo (holds (D.figuresOf f) μ total) r = sym (ap C.ofJudge passing) ∙ e ∙ ap (λ x. judgesTo x r) st in
+        let verdict : judgement (D.figuresOf f) (part (meanOf (D.figuresOf f .last) r)) ≡ passed = judged-same (refused-or (recordCheck (D.figuresOf f .last) r) _ passed (sym now-passed)) in
+        worth f yes-file (meanOf (lastYear f) r)
+        (ap isPassed (ap (λ J. judgement (D.figuresOf f) (part (meanOf J r))) (sym (figures-year f)) ∙ verdict));
+  }
 
   pub judges-closed : ¬ Fits s → Judges s r (JudgeRefused 21 0)
   unfolding judgeCall
@@ -147,10 +150,12 @@ module _ (F : D.Figures) (μ ν : List ℤ) (total n after last : ℕ) where
     where
       held-then : {m : List ℤ} {t : ℕ} → passes F (part m) ≡ true → _≡_ {A = State D.Figures} (holds F m t) (holds F ν last) → passes F (part ν) ≡ true
       held-then e st = ap (λ m. passes F (part m)) (sym (same-mean st)) ∙ e
+
       at-end : (b : Bool) → passes F (part (sweeps F n μ total .mean)) ≡ b → cond b (settled (sweeps F n μ total .swept)) (going (sweeps F n μ total .swept)) ≡ settled after
           → _≡_ {A = State D.Figures} (holds F (sweeps F n μ total .mean) (sweeps F n μ total .swept)) (holds F ν last) → passes F (part ν) ≡ true
       at-end true e a st = held-then e st
       at-end false e a st = absurd (going-settled a)
+
       by-cases : (b c d : Bool) → passes F (part μ) ≡ c → swept b c d .answer ≡ settled after → swept b c d .state ≡ holds F ν last → passes F (part ν) ≡ true
       by-cases true c d e a st = absurd (refused-settled a)
       by-cases false true d e a st = held-then e st
@@ -161,10 +166,15 @@ module _ (s : Session) (n : ℕ) where
   sweeps-as : (r : Sweeping) → C.ofSweep (r .answer) ≡ sweepsTo (stateOf s) n .answer → stateOf (r .session) ≡ sweepsTo (stateOf s) n .state
       → ((number place : ℕ) → r .answer ≡ SweepRefused number place → r .session ≡ s)
       → Sweeps s n r
-  sweeps-as r a st same = record { answer = a; state = st; same = same; worth = λ f μ ν total after yes-file before told then.
-      worth f yes-file ν (settled-passes (D.figuresOf f) μ ν total n after after
+  sweeps-as r a st same = record {
+    answer = a;
+    state = st;
+    same = same;
+    worth = λ f μ ν total after yes-file before told then.
+        worth f yes-file ν (settled-passes (D.figuresOf f) μ ν total n after after
         (ap (λ x. sweepsTo x n .answer) (sym before) ∙ sym a ∙ ap C.ofSweep told)
-        (ap (λ x. sweepsTo x n .state) (sym before) ∙ sym st ∙ then)) }
+        (ap (λ x. sweepsTo x n .state) (sym before) ∙ sym st ∙ then));
+  }
 
   pub sweeps-closed : ¬ Fits s → Sweeps s n (record { answer = SweepRefused 21 0; session = s })
   unfolding sweepCall
@@ -230,8 +240,12 @@ module _ (F : D.Figures) (μ : List ℤ) (total : ℕ) (b : Bytes) where
 
 module _ (s : Session) (before : Bytes) where
   reads-as : (r : ReadAnswer) (after : Bytes) → C.ofRead r ≡ readsTo (stateOf s) before .answer → after ≡ readsTo (stateOf s) before .buffer → Reads s before r after
-  reads-as r after a b = record { answer = a; buffer = b; worth = λ f μ total yes-file held-before told.
-      worth f yes-file μ (written-passes (D.figuresOf f) μ total before (ap (λ x. readsTo x before .answer) (sym held-before) ∙ sym a ∙ ap C.ofRead told)) }
+  reads-as r after a b = record {
+    answer = a;
+    buffer = b;
+    worth = λ f μ total yes-file held-before told.
+        worth f yes-file μ (written-passes (D.figuresOf f) μ total before (ap (λ x. readsTo x before .answer) (sym held-before) ∙ sym a ∙ ap C.ofRead told));
+  }
 
   pub reads-closed : ¬ Fits s → Reads s before (ReadRefused 21 0) before
   unfolding readCall

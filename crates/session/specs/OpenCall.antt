@@ -68,7 +68,7 @@ module _ (file : Bytes) (passed : fileCheck file ≡ clear) (F : Figures) (same 
   diagonal k below = fitting .diagonal k below
 
   pub diagonal-clear : {r : Check} → DiagonalOf (F .last) (F .matrix) r → told r ≡ clear
-  diagonal-clear h = h .is ∙ fields-clear (nonZero (F .matrix)) 16 (λ k. 0) 0 (parts (F .last)) 
+  diagonal-clear h = h .is ∙ fields-clear (nonZero (F .matrix)) 16 (λ k. 0) 0 (parts (F .last))
       (λ k below. rw (zero-add k) (not-zero (cell (F .matrix) k k) (subst (λ z. pos 1 ≤ℤ z) (entry-of F k k below below) (diagonal k below))))
 
   module _ (mean : List ℤ) (priors : PriorMeans file mean) where

@@ -24,6 +24,7 @@ open-fits s F μ total e = by-case (decFits s)
   where
     clash : _≡_ {A = State D.Figures} empty (holds F μ total) → ⊥
     clash same = let z : _≡_ {A = ℕ} 0 1 = cc in omega arith
+
     by-case : Dec (Fits s) → Fits s
     by-case (yes h) = h
     by-case (no n) = absurd (clash (sym (stateOf-empty s n) ∙ e))

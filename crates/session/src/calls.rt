@@ -4,18 +4,27 @@ ghost use Rattle.definitions.specs.Machine.{State};
 ghost use Rattle.session.specs.State.{Fits, stateOf};
 ghost use Rattle.session.specs.Calls.{Opens, Judges, OpenSweep, Sweeps, Reads};
 ghost use Rattle.session.specs.Diagonal.{OfDiagonal, DiagonalOf};
-use crate::answers::{JudgeAnswer, OpenAnswer, ReadAnswer, SweepAnswer};
-use crate::state::{empty, is_open};
 use crate::Session;
-use chain::judge::{judge as judge_mean, passes, size, Judgement};
-use chain::sweep::{sweeps, with_residues};
+use crate::answers::JudgeAnswer;
+use crate::answers::OpenAnswer;
+use crate::answers::ReadAnswer;
+use crate::answers::SweepAnswer;
+use crate::state::empty;
+use crate::state::is_open;
+use chain::judge::Judgement;
+use chain::judge::judge as judge_mean;
+use chain::judge::passes;
+use chain::judge::size;
+use chain::sweep::sweeps;
+use chain::sweep::with_residues;
 use figures::figures_of;
 use figures::reading::prior_means;
+use layout::checks::Check;
 use layout::checks::file::check_file;
 use layout::checks::record::check_record;
-use layout::checks::Check;
 use layout::places::record_length;
-use records::{mean_of, write_record};
+use records::mean_of;
+use records::write_record;
 
 pub struct Opening {
     pub answer: OpenAnswer,
@@ -134,7 +143,12 @@ fn sweep_open(s: Session, n: u64) -> Sweeping
     let mean = s.mean;
     let total = s.total;
     let working = with_residues(figures, mean);
-    if passes(figures.last, figures.closeness, &figures.own, &working.residues) {
+    if passes(
+        figures.last,
+        figures.closeness,
+        &figures.own,
+        &working.residues,
+    ) {
         return Sweeping {
             answer: SweepAnswer::Settled(total),
             session: s,

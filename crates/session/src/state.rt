@@ -3,8 +3,8 @@ ghost use mathlib.Core.Path.{_≡_};
 ghost use Rattle.session.specs.State.{Fits, stateOf};
 ghost use Rattle.definitions.specs.Machine.{State};
 ghost use Rattle.session.specs.Bounds.{Decides};
-use crate::bounds::figures_fit;
 use crate::Session;
+use crate::bounds::figures_fit;
 use chain::figures::Figures;
 
 // Nothing is open.
@@ -45,5 +45,11 @@ pub fn is_open(s: Session) -> bool
     if 4096 < s.total {
         return false;
     }
-    figures_fit(2 * last + 1, &figures.own, &figures.matrix, &figures.right_hand, &mean)
+    figures_fit(
+        2 * last + 1,
+        &figures.own,
+        &figures.matrix,
+        &figures.right_hand,
+        &mean,
+    )
 }

@@ -103,12 +103,13 @@ loop-less c = omega arith
 loop-again : tie.Need-loop-again Inv-loop μ-loop
 loop-again c =
     let a = c .before .before .before in
-    let y = l a .before .loop in
-    (omega (arith, l a .loop-test .taken),
+    let y = l a .before .loop in (
+      omega (arith, l a .loop-test .taken),
       λ j below. here-or-before (FitsAt (now (s a .args .own)) (now (s a .args .matrix)) (now (s a .args .right-hand)) (now (s a .args .mean)) (s a .args .count)) j (y .k)
-      (eq-or-lt-of-le (omega arith))
-      (record { of-part = decided a .when-yes (not-no (c .before .before .if1 .left)); of-row = c .before .row-fits .ensures .when-yes (not-no (c .if2 .left)) })
-      (y .inv .1 j))
+          (eq-or-lt-of-le (omega arith))
+          (record { of-part = decided a .when-yes (not-no (c .before .before .if1 .left)); of-row = c .before .row-fits .ensures .when-yes (not-no (c .if2 .left)) })
+          (y .inv .1 j),
+    )
   where
     here-or-before : (P : ℕ → Type 0) (j n : ℕ) → (j ≡ n) ⊎ (j < n) → P n → (j < n → P j) → P j
     here-or-before P j n (inl same-part) here before = subst P (sym same-part) here

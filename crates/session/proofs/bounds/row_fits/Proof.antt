@@ -58,8 +58,13 @@ next c =
 returns : tie.Need-returns Inv-loop μ-loop
 returns c =
     let l = c .before .before .before in
-    decided-no (λ fits. omega (arith, c .if1 .taken, next (c .before), l .before .loop .inv .1,
-    total-grows (λ i. natAbs (cell (now (l .before .before .args .matrix)) (l .before .before .args .k) i)) (below l)))
+    decided-no (λ fits. omega (
+      arith,
+      c .if1 .taken,
+      next (c .before),
+      l .before .loop .inv .1,
+      total-grows (λ i. natAbs (cell (now (l .before .before .args .matrix)) (l .before .before .args .k) i)) (below l),
+    ))
 
 add-sum : tie.Need-add-sum Inv-loop μ-loop
 add-sum c = omega arith

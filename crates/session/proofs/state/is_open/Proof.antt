@@ -38,13 +38,13 @@ returns-5 c =
     let s = first .before .before .before .before .args .s in
     record {
       when-yes = λ e.
-        let h = c .figures-fit .ensures .when-yes e in
-        record {
-          holding = not-no (first .if1 .left);
-          fitting = fitted (s .figures) (s .mean) (third .before .if2 .left) (third .if3 .left) h;
-          inside = means-inside (s .figures) (s .mean) h;
-          few = inner .if4 .left;
-        };
+          let h = c .figures-fit .ensures .when-yes e in
+          record {
+            holding = not-no (first .if1 .left);
+            fitting = fitted (s .figures) (s .mean) (third .before .if2 .left) (third .if3 .left) h;
+            inside = means-inside (s .figures) (s .mean) h;
+            few = inner .if4 .left;
+          };
       when-no = λ e h. c .figures-fit .ensures .when-no e (fits-back (s .figures) (s .mean) (h .fitting) (h .inside));
     }
 
