@@ -1,8 +1,8 @@
 -- The contracts of the calls: each answer, and the state and buffer afterwards, are the machine's; a refused call gives back the very session that it took;
 -- and where a mean passes, the caller is told what it is worth.
-use Prim.Native.Nat.{ℕ, _≤_}
+use Prim.Native.Nat.{ℕ, _≤_, _<_}
 use mathlib.Core.Path.{_≡_}
-use mathlib.Core.Bool.{true}
+use mathlib.Core.Bool.{true, false}
 use mathlib.Core.List.{List}
 use lib.IntN.{ℤ}
 use Rattle.definitions.specs.Words.{part}
@@ -13,6 +13,10 @@ use Rattle.definitions.specs.Machine as M
 use Rattle.definitions.specs.Machine.{Answer, opened, judged, settled, going, written, State, holds, Outcome, accepted, openCall, judgeCall, sweepCall, readCall}
 use Rattle.definitions.specs.Guarantee.{Guarantee}
 use Rattle.definitions.specs.Sweep.{sweepLimit}
+use Rattle.chain.specs.declared.figures.Working.{Working}
+use Rattle.chain.specs.Arrays as A
+use Rattle.chain.specs.Arrays.{figuresOf}
+use Rattle.chain.specs.Sweeps.{Started}
 use Rattle.session.specs.declared.Session.{Session}
 use Rattle.session.specs.declared.answers.OpenAnswer.{OpenAnswer}
 use Rattle.session.specs.declared.answers.OpenAnswer.the-variants.{Opened, Refused as OpenRefused}
@@ -77,6 +81,13 @@ pub record OpenSweep (s : Session) (n : ℕ) : Type 0 where
   pub fits : Fits s
   pub from : 1 ≤ n
   pub to : n ≤ sweepLimit
+
+-- with the residues of its mean, which does not pass, and fewer sweeps than may be run
+pub record Unsettled (s : Session) (w : Working) (n : ℕ) : Type 0 where
+  pub open-sweep : OpenSweep s n
+  pub started : Started (s .figures) (s .mean) w
+  pub fails : D.passes (figuresOf (s .figures)) (part (A.meanOf (s .figures .last) (s .mean))) ≡ false
+  pub more : s .total < sweepLimit
 
 pub record Sweeps (s : Session) (n : ℕ) (r : Sweeping) : Type 0 where
   pub answer : ofSweep (r .answer) ≡ sweepsTo (stateOf s) n .answer

@@ -2,7 +2,7 @@
 ghost use mathlib.Core.Path.{_≡_};
 ghost use Rattle.definitions.specs.Machine.{State};
 ghost use Rattle.session.specs.State.{Fits, stateOf};
-ghost use Rattle.session.specs.Calls.{Opens, Judges, OpenSweep, Sweeps, Reads};
+ghost use Rattle.session.specs.Calls.{Opens, Judges, OpenSweep, Unsettled, Sweeps, Reads};
 ghost use Rattle.session.specs.Diagonal.{OfDiagonal, DiagonalOf};
 use crate::Session;
 use crate::answers::JudgeAnswer;
@@ -11,6 +11,7 @@ use crate::answers::ReadAnswer;
 use crate::answers::SweepAnswer;
 use crate::state::empty;
 use crate::state::is_open;
+use chain::figures::Working;
 use chain::judge::Judgement;
 use chain::judge::judge as judge_mean;
 use chain::judge::passes;
@@ -160,7 +161,16 @@ fn sweep_open(s: Session, n: u64) -> Sweeping
             session: s,
         };
     }
-    let swept = sweeps(figures, working, total, n);
+    sweep_on(s, working, n)
+}
+
+// The sweeps of a mean that does not pass, while some are left.
+fn sweep_on(s: Session, working: Working, n: u64) -> Sweeping
+    requires { ⌜ Unsettled s working n ⌝ }
+    ensures { λ r. ⌜ Sweeps s n r ⌝ }
+{
+    let figures = s.figures;
+    let swept = sweeps(figures, working, s.total, n);
     let after = swept.working;
     let settled = after.mean;
     let session = Session {

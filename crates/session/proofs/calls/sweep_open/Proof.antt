@@ -1,7 +1,7 @@
--- `calls::sweep_open` meets its contract: the mean that is held is tested before the first sweep. Assumes nothing.
+-- `calls::sweep_open` meets its contract: the mean that is held is tested before the first sweep, and 23 is told. Assumes nothing.
 use native.Mathlib.Omega.{arith}
 use Rattle.chain.specs.Judge.{own-fits}
-use Rattle.session.specs.SweepCall.{settled, spent, done, still-going}
+use Rattle.session.specs.SweepCall.{settled, spent, unsettled}
 use Rattle.session.proofs.calls.sweep_open.Statement.{statement}
 use Rattle.session.proofs.calls.sweep_open.Tie as tie
 
@@ -24,29 +24,15 @@ returns-2 c =
     let start = started .before .before .before in
     spent (start .args .s) (start .args .n) (start .pre) _ (started .with-residues .ensures) (tested .passes .ensures) (c .before .if1 .left) (omega (arith, c .if2 .taken))
 
-sweeps-requires : tie.Need-sweeps-requires
-sweeps-requires c κs =
-    let started = c .before .before .before .before .before .before .before in
+sweep-on-requires : tie.Need-sweep-on-requires
+sweep-on-requires c κs =
+    let tested = c .before .before in
+    let started = tested .before .before .before .before .before in
     let start = started .before .before .before in
-    record { fitting = start .pre .fits .fitting; holds = started .with-residues .ensures .holds }
+    unsettled (start .args .s) (start .args .n) (start .pre) _ (started .with-residues .ensures) (tested .passes .ensures) (c .before .if1 .left) (omega (arith, c .if2 .left))
 
 returns-3 : tie.Need-returns-3
-returns-3 c =
-    let swept = c .before .before .before in
-    let tested = swept .before .before .before in
-    let started = tested .before .before .before .before .before in
-    let start = started .before .before .before in
-    done (start .args .s) (start .args .n) (start .pre) _ (started .with-residues .ensures) (tested .passes .ensures) (swept .before .before .if1 .left) (omega (arith, swept .before .if2 .left))
-    (swept .sweeps .ensures) (c .if3 .taken)
-
-returns-4 : tie.Need-returns-4
-returns-4 c =
-    let swept = c .before .before .before in
-    let tested = swept .before .before .before in
-    let started = tested .before .before .before .before .before in
-    let start = started .before .before .before in
-    still-going (start .args .s) (start .args .n) (start .pre) _ (started .with-residues .ensures) (tested .passes .ensures) (swept .before .before .if1 .left) (omega (arith, swept .before .if2 .left))
-    (swept .sweeps .ensures) (c .if3 .left)
+returns-3 c = c .sweep-on .ensures
 
 pub sweep-open-spec : {M : Type 1} → statement M
 sweep-open-spec =
@@ -56,6 +42,5 @@ sweep-open-spec =
     passes-requires
     returns
     returns-2
-    sweeps-requires
-    returns-3
-    returns-4)
+    sweep-on-requires
+    returns-3)
