@@ -1,4 +1,4 @@
--- The figures of an accepted file fit, and its prior means are inside the limits: no sum wraps for a session that `open` made.
+-- The figures of an accepted file fit: no sum wraps for a session that `open` made.
 use Prim.Native.Nat.{ℕ, _<_}
 use mathlib.Core.Path.{_≡_, sym, ap, _∙_, subst}
 use mathlib.Core.Bool.{true}
@@ -9,7 +9,7 @@ use lib.Signed.{_≤ℤ_}
 use Rattle.integers.specs.Order.{pos-≤}
 use Rattle.integers.specs.Total.{total-cong}
 use Rattle.definitions.specs.Words.{tabFrom, part}
-use Rattle.definitions.specs.Layout.{Bytes, lastYear, parts, priorMean}
+use Rattle.definitions.specs.Layout.{Bytes, lastYear, parts}
 use Rattle.definitions.specs.Observations.{chainOf}
 use Rattle.definitions.specs.Matrix.{own, matrix, rightHand, figuresOf, entry}
 use Rattle.definitions.specs.Machine.{accepted}
@@ -18,7 +18,7 @@ use Rattle.laws.specs.Diagonal.{diagonal-is}
 use Rattle.laws.specs.FileBounds.{file-owned}
 use Rattle.laws.specs.FileLimits.{file-limits, row-fits, right-hand-fits}
 use Rattle.laws.specs.Judged.{tab-at}
-use Rattle.chain.specs.Fitting.{Fitting, Inside}
+use Rattle.chain.specs.Fitting.{Fitting}
 
 module _ (f : Bytes) (h : AcceptedFile f) where
   entry-of-file : (k l : ℕ) → k < parts (lastYear f) → l < parts (lastYear f) → entry (figuresOf f) k l ≡ matrix (chainOf f) k l
@@ -42,11 +42,5 @@ module _ (f : Bytes) (h : AcceptedFile f) where
     right-hand = λ k below. omega (arith, right-hand-fits f h k below, ap natAbs (tab-at (parts (lastYear f)) (rightHand (chainOf f)) k (pos 0) below));
   }
 
-  pub priors-inside : Inside (parts (lastYear f)) (tabFrom 0 (parts (lastYear f)) (priorMean f))
-  priors-inside = record { small = λ k below. omega (arith, h .prior-means k below, ap natAbs (tab-at (parts (lastYear f)) (priorMean f) k (pos 0) below)) }
-
 pub accepted-fits : (f : Bytes) → accepted f ≡ true → Fitting (figuresOf f)
 accepted-fits f h = file-fits f (accepted-file f h)
-
-pub accepted-inside : (f : Bytes) → accepted f ≡ true → Inside (parts (lastYear f)) (tabFrom 0 (parts (lastYear f)) (priorMean f))
-accepted-inside f h = priors-inside f (accepted-file f h)
