@@ -1,5 +1,8 @@
 // The listing program: opens the file on standard input, sweeps with n = 4,096, reads, and prints the mean.
-ghost use Rattle.io.specs.Counts.{Counts};
+ghost use Prim.Native.Nat.{_≤_};
+ghost use Rattle.session.specs.State.{stateOf};
+ghost use Rattle.listing.specs.Page.{Added};
+ghost use Rattle.listing.specs.Listing.{readText, listing};
 use crate::page::put_count;
 use crate::page::put_parts;
 use crate::page::put_refusal;
@@ -22,7 +25,8 @@ const ROOM: usize = 2807;
 
 // The mean that is read back, below J and the total.
 fn list_mean(page: &mut [u8], last: u8, total: u64, s: Session) -> usize
-    ensures { λ r. ⌜ Counts r (now (page .exit)) ⌝ }
+    requires { ⌜ last ≤ 15 ⌝ }
+    ensures { λ r. ⌜ Added (now (page .entry)) 0 (readText last total (stateOf s)) (now (page .exit)) r ⌝ }
 {
     let mut record = [0u8; 129];
     let answer = read(s, &mut record);
@@ -38,7 +42,7 @@ fn list_mean(page: &mut [u8], last: u8, total: u64, s: Session) -> usize
 
 // What is printed for the bytes given, at the front of the page; and how much of it.
 fn list(page: &mut [u8], given: &[u8]) -> usize
-    ensures { λ r. ⌜ Counts r (now (page .exit)) ⌝ }
+    ensures { λ r. ⌜ Added (now (page .entry)) 0 (listing (now (given .entry))) (now (page .exit)) r ⌝ }
 {
     if ROOM <= given.len() {
         return put_refusal(page, 1, 0);

@@ -1,18 +1,16 @@
 // Text that is gathered on a page before it is written. Each function puts its text at a place of the page, as much of it as
 // the page has room for, and answers where it ends.
-ghost use mathlib.Core.Path.{_≡_};
-ghost use mathlib.Core.List.{_++_};
-ghost use Prim.Native.Nat.{_+_, _≤_};
-ghost use lib.ListN.{length, take};
-ghost use Rattle.io.specs.Counts.{Counts};
+ghost use Prim.Native.Nat.{_+_, _*_, _≤_};
+ghost use lib.ListN.{length};
+ghost use Rattle.listing.specs.Page.{Added};
+ghost use Rattle.listing.specs.Text.{decimal, signedDecimal, countLine, partLine, partLines, partFrom, refusalLine};
 use chain::judge::size;
 use fields::SignedField;
 use fields::signed_4;
 
 fn put(page: &mut [u8], at: usize, text: &[u8]) -> usize
     requires { ⌜ at ≤ length (now page) ⌝ }
-    ensures { λ r. ⌜ Counts r (now (page .exit)) ⌝ }
-    ensures { λ r. ⌜ take r (now (page .exit)) ≡ take (length (now (page .entry))) (take at (now (page .entry)) ++ now (text .entry)) ⌝ }
+    ensures { λ r. ⌜ Added (now (page .entry)) at (now (text .entry)) (now (page .exit)) r ⌝ }
 {
     let mut end = at;
     let mut i = 0usize;
@@ -29,7 +27,7 @@ fn put(page: &mut [u8], at: usize, text: &[u8]) -> usize
 
 fn put_decimal(page: &mut [u8], at: usize, n: u64) -> usize
     requires { ⌜ at ≤ length (now page) ⌝ }
-    ensures { λ r. ⌜ Counts r (now (page .exit)) ⌝ }
+    ensures { λ r. ⌜ Added (now (page .entry)) at (decimal n) (now (page .exit)) r ⌝ }
 {
     let mut digits = [0u8; 20];
     let k = io::decimal(n, &mut digits);
@@ -38,7 +36,7 @@ fn put_decimal(page: &mut [u8], at: usize, n: u64) -> usize
 
 fn put_signed(page: &mut [u8], at: usize, z: i64) -> usize
     requires { ⌜ at ≤ length (now page) ⌝ }
-    ensures { λ r. ⌜ Counts r (now (page .exit)) ⌝ }
+    ensures { λ r. ⌜ Added (now (page .entry)) at (signedDecimal z) (now (page .exit)) r ⌝ }
 {
     if z < 0 {
         let signed = put(page, at, b"-");
@@ -50,7 +48,7 @@ fn put_signed(page: &mut [u8], at: usize, z: i64) -> usize
 // A name and a number.
 pub fn put_count(page: &mut [u8], at: usize, name: &[u8], n: u64) -> usize
     requires { ⌜ at ≤ length (now page) ⌝ }
-    ensures { λ r. ⌜ Counts r (now (page .exit)) ⌝ }
+    ensures { λ r. ⌜ Added (now (page .entry)) at (countLine (now (name .entry)) n) (now (page .exit)) r ⌝ }
 {
     let named = put(page, at, name);
     let counted = put_decimal(page, named, n);
@@ -60,7 +58,7 @@ pub fn put_count(page: &mut [u8], at: usize, name: &[u8], n: u64) -> usize
 // A name, an index and a mean in ticks.
 fn put_part(page: &mut [u8], at: usize, name: &[u8], index: usize, mean: i64) -> usize
     requires { ⌜ at ≤ length (now page) ⌝ }
-    ensures { λ r. ⌜ Counts r (now (page .exit)) ⌝ }
+    ensures { λ r. ⌜ Added (now (page .entry)) at (partLine (now (name .entry)) index mean) (now (page .exit)) r ⌝ }
 {
     let named = put(page, at, name);
     let indexed = put_decimal(page, named, index as u64);
@@ -78,8 +76,8 @@ pub fn put_parts(
     first: usize,
     count: usize,
 ) -> usize
-    requires { ⌜ (at ≤ length (now page)) × (first + count ≤ 511) ⌝ }
-    ensures { λ r. ⌜ Counts r (now (page .exit)) ⌝ }
+    requires { ⌜ (at ≤ length (now page)) × (5 + 4 * (first + count) ≤ length (now «record»)) × (length (now «record») ≤ 4096) ⌝ }
+    ensures { λ r. ⌜ Added (now (page .entry)) at (partLines (now (name .entry)) (partFrom (now («record» .entry)) first) count) (now (page .exit)) r ⌝ }
 {
     let mut end = at;
     let mut k = 0usize;
@@ -94,7 +92,7 @@ pub fn put_parts(
 }
 
 pub fn put_refusal(page: &mut [u8], number: u64, place: usize) -> usize
-    ensures { λ r. ⌜ Counts r (now (page .exit)) ⌝ }
+    ensures { λ r. ⌜ Added (now (page .entry)) 0 (refusalLine number place) (now (page .exit)) r ⌝ }
 {
     let named = put(page, 0, b"refused ");
     let numbered = put_decimal(page, named, number);

@@ -50,7 +50,7 @@ same-length : tie.Need-same-length Inv-loop μ-loop
 same-length c = search needs
 
 returns : tie.Need-returns Inv-loop μ-loop
-returns c = let l = c .before .before .loop in (counts _ _ (omega arith), l .inv .3 ∙ full _ _ _ (c .before .before .before .pre) (l .i) (omega arith))
+returns c = let l = c .before .before .loop in record { counted = counts _ _ (omega arith); front = l .inv .3 ∙ full _ _ _ (c .before .before .before .pre) (l .i) (omega arith) }
 
 shared-slice-read-page : tie.Need-shared-slice-read-page Inv-loop μ-loop
 shared-slice-read-page c = search needs
@@ -81,7 +81,7 @@ same-length-2 : tie.Need-same-length-2 Inv-loop μ-loop
 same-length-2 c = search needs
 
 returns-2 : tie.Need-returns-2 Inv-loop μ-loop
-returns-2 c = let l = c .before .loop in (counts _ _ (omega arith), l .inv .3 ∙ whole _ _ _ (c .before .before .pre) (l .i) (c .loop-test .left) (omega arith))
+returns-2 c = let l = c .before .loop in record { counted = counts _ _ (omega arith); front = l .inv .3 ∙ whole _ _ _ (c .before .before .pre) (l .i) (c .loop-test .left) (omega arith) }
 
 pub put-spec : {M : Type 1} → statement M
 put-spec = tie.close (tie.spec Inv-loop μ-loop loop-holds same-length returns shared-slice-read-page slice-write-page add-end add-i loop-less loop-again same-length-2 returns-2)

@@ -1,0 +1,46 @@
+-- A name, an index, a space, a mean and the end of the line, one behind the other. Assumes nothing.
+use mathlib.Core.Path.{ap, _∙_}
+use mir.Facts.{toZ-ofZ}
+use Rattle.listing.specs.Page.{both, in-words}
+use Rattle.listing.specs.Text.{signedDecimal}
+use borrow.Author.Needs.{needs}
+use Rattle.listing.proofs.page.put_part.Statement.{statement}
+use Rattle.listing.proofs.page.put_part.Tie as tie
+
+put-requires : tie.Need-put-requires
+put-requires c κs = search needs
+
+put-decimal-requires : tie.Need-put-decimal-requires
+put-decimal-requires c κs = search needs
+
+slice-aggregate-put : tie.Need-slice-aggregate-put
+slice-aggregate-put c = search needs
+
+put-requires-2 : tie.Need-put-requires-2
+put-requires-2 c κs = search needs
+
+put-signed-requires : tie.Need-put-signed-requires
+put-signed-requires c κs = search needs
+
+slice-aggregate-put-2 : tie.Need-slice-aggregate-put-2
+slice-aggregate-put-2 c = search needs
+
+put-requires-3 : tie.Need-put-requires-3
+put-requires-3 c κs = search needs
+
+same-length : tie.Need-same-length
+same-length c = search needs
+
+returns : tie.Need-returns
+returns c =
+    let named = c .before .before .before .before .before .before .before .before .before .before .before .before .before .before .before .before .before .before .before .before .put in
+    let indexed = c .before .before .before .before .before .before .before .before .before .before .before .before .before .before .before .before .put-decimal in
+    let parted = c .before .before .before .before .before .before .before .before .before .before .before .put2 in
+    let signed = c .before .before .before .before .before .before .before .put-signed in
+    let same₁ = named .kept .0 in
+    let same₂ = indexed .kept .0 ∙ same₁ in
+    let same₃ = parted .kept .0 ∙ same₂ in
+    both (both (both (both (named .ensures) same₁ (indexed .ensures)) same₂ (parted .ensures)) same₃ (in-words (ap signedDecimal (toZ-ofZ (c .before .before .before .before .before .before .before .before .before .before .before .before .before .before .before .before .before .before .before .before .before .before .before .before .fits .mean))) (signed .ensures))) (signed .kept .0 ∙ same₃) (c .before .before .put3 .ensures)
+
+pub put-part-spec : {M : Type 1} → statement M
+put-part-spec = tie.close (tie.spec put-requires put-decimal-requires slice-aggregate-put put-requires-2 put-signed-requires slice-aggregate-put-2 put-requires-3 same-length returns)

@@ -1,0 +1,5 @@
+pub mod Page
+pub mod Text
+pub mod TextLaws
+pub mod Listing
+pub mod ListingLaws
