@@ -37,10 +37,10 @@ pub fn one_sweep(last: usize, matrix: &[i64; 961], working: Working) -> Working
 {
     let parts = 2 * last + 1;
     let mut current = working;
-    let mut k = 0;
-    while k < parts {
-        current = step(last, matrix, current, k);
-        k += 1;
+    let mut left = parts;
+    while 0 < left {
+        current = step(last, matrix, current, parts - left);
+        left -= 1;
     }
     current
 }
