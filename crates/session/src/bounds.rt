@@ -2,6 +2,8 @@
 // fails it counts as empty. None that `open` made ever fails it.
 
 ghost use Rattle.session.specs.Bounds.{Decides, RowFits, OfRow, PartFits, FiguresFit, OfBounds};
+ghost use Rattle.session.specs.State.{Fits};
+use crate::Session;
 use chain::judge::size;
 
 // The sizes of a row come to at most 9·2^32. The sum is tested before each size is added, so that it cannot wrap.
@@ -43,7 +45,7 @@ fn part_fits(own: u64, diagonal: i64, right_hand: i64, mean: i64) -> bool
 }
 
 // Every part and every row.
-pub fn figures_fit<'a>(
+fn figures_fit<'a>(
     count: usize,
     own: &'a [u64; 31],
     matrix: &'a [i64; 961],
@@ -64,4 +66,32 @@ pub fn figures_fit<'a>(
         k += 1;
     }
     true
+}
+
+// Whether a file is open: something is held, and it is inside the bounds.
+pub fn is_open(s: Session) -> bool
+    ensures { λ r. ⌜ Decides (Fits s) r ⌝ }
+{
+    let figures = s.figures;
+    let mean = s.mean;
+    let last = figures.last;
+    if !s.held {
+        return false;
+    }
+    if 15 < last {
+        return false;
+    }
+    if 65536 < figures.closeness {
+        return false;
+    }
+    if 4096 < s.total {
+        return false;
+    }
+    figures_fit(
+        2 * last + 1,
+        &figures.own,
+        &figures.matrix,
+        &figures.right_hand,
+        &mean,
+    )
 }

@@ -1,4 +1,4 @@
--- `state::is_open` meets its contract: its tests are the bounds of a session that fits. Assumes nothing.
+-- `bounds::is_open` meets its contract: its tests are the bounds of a session that fits. Assumes nothing.
 use mathlib.Core.Path.{sym, _∙_}
 use mathlib.Core.Bool.{true≢false}
 use native.Mathlib.Omega.{arith}
@@ -6,8 +6,8 @@ use Rattle.session.specs.Bounds.{decided-no, not-yes, not-no}
 use Rattle.session.specs.Fitted.{fitted, means-inside, fits-back}
 use Rattle.session.specs.State.{years-of, close-of}
 use borrow.Author.Needs.{needs}
-use Rattle.session.proofs.state.is_open.Statement.{statement}
-use Rattle.session.proofs.state.is_open.Tie as tie
+use Rattle.session.proofs.bounds.is_open.Statement.{statement}
+use Rattle.session.proofs.bounds.is_open.Tie as tie
 
 returns : tie.Need-returns
 returns c = decided-no (λ h. true≢false (sym (h .holding) ∙ not-yes (c .if1 .taken)))
