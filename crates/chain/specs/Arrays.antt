@@ -21,6 +21,10 @@ cell A k l = part A (31 * k + l)
 abbrev pub rowsOf : ℕ → List ℤ → List (List ℤ)
 rowsOf last A = tabFrom 0 (parts last) (λ k. tabFrom 0 (parts last) (cell A k))
 
+-- figures in arrays that are lent one by one
+abbrev pub figuresAt : ℕ → ℕ → List ℕ → List ℤ → List ℤ → FlatFigures
+figuresAt last closeness own A b = record { last = last; closeness = closeness; own = own; matrix = A; «right_hand» = b }
+
 unfoldable pub figuresOf : FlatFigures → Figures
 figuresOf F = record {
   last = F .last;

@@ -19,9 +19,9 @@ use Rattle.chain.specs.declared.figures.Figures.{Figures}
 use Rattle.chain.specs.declared.judge.Judgement.{Judgement}
 use Rattle.chain.specs.declared.judge.Judgement.the-variants.{Passed, Fails}
 use Rattle.chain.specs.Arrays.{meanOf, figuresOf}
-use Rattle.chain.specs.Fitting.{Fitting, Inside, ownLimit}
-use Rattle.chain.specs.Residues.{OfMean, ResiduesOf}
-use Rattle.chain.specs.Sizes.{system-fits, residue-same}
+use Rattle.chain.specs.Fitting.{Fitting, ownLimit}
+use Rattle.chain.specs.Residues.{ResiduesOf}
+use Rattle.chain.specs.Sizes.{residue-same}
 
 abbrev pub judgementOf : Judgement → D.Judgement
 judgementOf Passed = passed
@@ -45,22 +45,7 @@ pub record Tested (last e : ℕ) (D : List ℕ) (v : List ℤ) (r : Judgement) :
 pub record Passes (last e : ℕ) (D : List ℕ) (v : List ℤ) (r : Bool) : Type 0 where
   pub is : r ≡ isPassed (testFrom e D v 0 (parts last))
 
-pub record Judges (F : Figures) (μ : List ℤ) : Type 0 where
-  pub fitting : Fitting (figuresOf F)
-  pub inside : Inside (parts (F .last)) μ
-
-pub record Judged (F : Figures) (μ : List ℤ) (r : Judgement) : Type 0 where
-  pub is : judgementOf r ≡ judgement (figuresOf F) (part (meanOf (F .last) μ))
-
--- ---- what the residues and the test ask of figures that fit
-
-module _ (F : Figures) (μ : List ℤ) where
-  pub residues-ask : Judges F μ → OfMean (F .last) (F .matrix) (F .«right_hand») μ
-  residues-ask h = record { fitting = system-fits F (h .fitting); inside = h .inside }
-
-  pub residues-are : (v : List ℤ) → ResiduesOf (F .last) (F .matrix) (F .«right_hand») μ v → (k : ℕ) → k < parts (F .last)
-      → part v k ≡ residue (figuresOf F) (part (meanOf (F .last) μ)) k
-  residues-are v h k below = h .at k below ∙ sym (residue-same F (part (meanOf (F .last) μ)) k)
+-- ---- what the test asks of figures that fit
 
 pub own-fits : (F : Figures) → Fitting (figuresOf F) → OwnFits (F .last) (F .closeness) (F .own)
 unfolding figuresOf
@@ -107,6 +92,10 @@ module _ (F : Figures) (u : Vector) (v : List ℤ) (same : (k : ℕ) → k < par
   unfolding figuresOf
   test-is-judgement = test-from 0 (parts (F .last)) (omega arith)
 
-pub judged : (F : Figures) (μ v : List ℤ) → ResiduesOf (F .last) (F .matrix) (F .«right_hand») μ v → (r : Judgement) → Tested (F .last) (F .closeness) (F .own) v r
-    → Judged F μ r
-judged F μ v found r tested = record { is = tested .is ∙ test-is-judgement F (part (meanOf (F .last) μ)) v (residues-are F μ v found) }
+pub residues-are : (F : Figures) (μ v : List ℤ) → ResiduesOf (F .last) (F .matrix) (F .«right_hand») μ v → (k : ℕ) → k < parts (F .last)
+    → part v k ≡ residue (figuresOf F) (part (meanOf (F .last) μ)) k
+residues-are F μ v h k below = h .at k below ∙ sym (residue-same F (part (meanOf (F .last) μ)) k)
+
+pub judged : (F : Figures) (μ v : List ℤ) → ResiduesOf (F .last) (F .matrix) (F .«right_hand») μ v → {r : Judgement} → Tested (F .last) (F .closeness) (F .own) v r
+    → judgementOf r ≡ judgement (figuresOf F) (part (meanOf (F .last) μ))
+judged F μ v found tested = tested .is ∙ test-is-judgement F (part (meanOf (F .last) μ)) v (residues-are F μ v found)

@@ -2,6 +2,7 @@
 --
 --   Arrays         what the code's arrays stand for: `figuresOf`, `meanOf`, and `held`, the system that a working mean belongs to
 --   Fitting        the figures and means that 64 bits suffice for
+--   Decides        an answer that tells whether something holds
 --   Residues, Judge, Step, Sweep, Sweeps      the contracts, a record each for what is asked and what is given
 --   AcceptedFits   the figures of an accepted file fit, and its prior means are inside the limits
 --   Sizes, StepSizes      the sizes of what the code computes
@@ -13,6 +14,7 @@ pub mod AcceptedFits
 pub mod Arrays
 pub mod Bits
 pub mod BroughtBack
+pub mod Decides
 pub mod Fitting
 pub mod Held
 pub mod Judge

@@ -7,7 +7,7 @@ use native.Mathlib.Omega.{arith}
 use lib.IntN.{ℤ, pos, natAbs, _-ℤ_, _*ℤ_}
 use Rattle.integers.specs.Size.{natAbs--, natAbs-*-≤}
 use Rattle.integers.specs.Sum.{sum, sum-cong}
-use Rattle.integers.specs.Total.{sizes, sum-size-below, total-cong, total-mono, total-term, total-scale-right}
+use Rattle.integers.specs.Total.{sizes, sum-size, total-cong, total-mono, total-term, total-scale-right}
 use Rattle.definitions.specs.Words.{tabFrom, part}
 use Rattle.definitions.specs.Layout.{parts}
 use Rattle.definitions.specs.Refusals.{partLimit}
@@ -56,29 +56,30 @@ module _ (F : FlatFigures) where
 
 -- ---- sizes
 
-module _ (last : ℕ) (A β : List ℤ) where
-  module _ (fitting : Fitting (system last A β)) where
-    pub row-fits : (k : ℕ) → k < parts last → sizes (parts last) (cell A k) ≤ rowLimit
-    row-fits k below =
-        le-trans (le-of-eq (total-cong (parts last) (λ l l-below. ap natAbs (sym (entry-at last A β k l below l-below))))) (fitting .rows k below)
+-- a row whose first n sizes fit, times a mean
+module _ (A μ : List ℤ) (k n : ℕ) (fits : sizes n (cell A k) ≤ rowLimit) (inside : Inside n μ) where
+  products-fit : sizes n (λ l. cell A k l *ℤ part μ l) ≤ rowLimit * partLimit
+  products-fit =
+      le-trans (total-mono n (λ l below. natAbs-*-≤ (cell A k l) (part μ l) (le-refl (natAbs (cell A k l))) (inside .small l below)))
+      (le-trans (le-of-eq (total-scale-right n partLimit (λ l. natAbs (cell A k l)))) (mul-le-mul-right partLimit fits))
 
-    pub cell-fits : (k l : ℕ) → k < parts last → l < parts last → natAbs (cell A k l) ≤ rowLimit
-    cell-fits k l k-below l-below = le-trans (total-term (parts last) l (λ i. natAbs (cell A k i)) l-below) (row-fits k k-below)
+  pub product-fits : (l : ℕ) → l < n → natAbs (cell A k l *ℤ part μ l) ≤ rowLimit * partLimit
+  product-fits l below = le-trans (total-term n l (λ i. natAbs (cell A k i *ℤ part μ i)) below) products-fit
 
-    module _ (μ : List ℤ) (inside : Inside (parts last) μ) (k : ℕ) (below : k < parts last) where
-      products-fit : sizes (parts last) (λ l. cell A k l *ℤ part μ l) ≤ rowLimit * partLimit
-      products-fit =
-          le-trans (total-mono (parts last) (λ l l-below. natAbs-*-≤ (cell A k l) (part μ l) (le-refl (natAbs (cell A k l))) (inside .small l l-below)))
-          (le-trans (le-of-eq (total-scale-right (parts last) partLimit (λ l. natAbs (cell A k l)))) (mul-le-mul-right partLimit (row-fits k below)))
+  pub sum-fits : natAbs (sum n (λ l. cell A k l *ℤ part μ l)) ≤ rowLimit * partLimit
+  sum-fits = le-trans (sum-size n (λ l. cell A k l *ℤ part μ l)) products-fit
 
-      pub product-fits : (l : ℕ) → l < parts last → natAbs (cell A k l *ℤ part μ l) ≤ rowLimit * partLimit
-      product-fits l l-below = le-trans (total-term (parts last) l (λ i. natAbs (cell A k i *ℤ part μ i)) l-below) products-fit
+  pub difference-fits : (z : ℤ) → natAbs z ≤ rightHandLimit → natAbs (sum n (λ l. cell A k l *ℤ part μ l) -ℤ z) ≤ rowLimit * partLimit + rightHandLimit
+  difference-fits z small = le-trans (natAbs-- (sum n (λ l. cell A k l *ℤ part μ l)) z) (omega (arith, sum-fits, small))
 
-      -- every partial sum of a row
-      pub sum-fits : (n : ℕ) → n ≤ parts last → natAbs (sum n (λ l. cell A k l *ℤ part μ l)) ≤ rowLimit * partLimit
-      sum-fits n few = le-trans (sum-size-below (λ l. cell A k l *ℤ part μ l) few) products-fit
+module _ (last : ℕ) (A β : List ℤ) (fitting : Fitting (system last A β)) where
+  row-fits : (k : ℕ) → k < parts last → sizes (parts last) (cell A k) ≤ rowLimit
+  row-fits k below =
+      le-trans (le-of-eq (total-cong (parts last) (λ l l-below. ap natAbs (sym (entry-at last A β k l below l-below))))) (fitting .rows k below)
 
-      pub residue-fits : natAbs (sum (parts last) (λ l. cell A k l *ℤ part μ l) -ℤ part β k) ≤ rowLimit * partLimit + rightHandLimit
-      residue-fits =
-          le-trans (natAbs-- (sum (parts last) (λ l. cell A k l *ℤ part μ l)) (part β k))
-          (omega (arith, sum-fits (parts last) (le-refl (parts last)), fitting .right-hand k below))
+  pub cell-fits : (k l : ℕ) → k < parts last → l < parts last → natAbs (cell A k l) ≤ rowLimit
+  cell-fits k l k-below l-below = le-trans (total-term (parts last) l (λ i. natAbs (cell A k i)) l-below) (row-fits k k-below)
+
+  pub residue-fits : (μ : List ℤ) → Inside (parts last) μ → (k : ℕ) → k < parts last
+      → natAbs (sum (parts last) (λ l. cell A k l *ℤ part μ l) -ℤ part β k) ≤ rowLimit * partLimit + rightHandLimit
+  residue-fits μ inside k below = difference-fits A μ k (parts last) (row-fits k below) inside (part β k) (fitting .right-hand k below)

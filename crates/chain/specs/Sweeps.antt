@@ -21,7 +21,8 @@ use Rattle.chain.specs.declared.sweep.Swept.{Swept}
 use Rattle.chain.specs.Arrays.{meanOf, cell, system, figuresOf, held}
 use Rattle.chain.specs.Fitting.{Fitting, Inside}
 use Rattle.chain.specs.Held.{tab-cong, held-residue}
-use Rattle.chain.specs.Judge.{Passes, test-is-judgement}
+use Rattle.chain.specs.Judge.{Passes, test-is-judgement, residues-are}
+use Rattle.chain.specs.Residues.{ResiduesOf}
 use Rattle.chain.specs.Sizes.{mean-at, residue-at, residue-same, system-fits}
 use Rattle.chain.specs.Step.{Stepped}
 use Rattle.chain.specs.Sweep.{OfSystem, OneSwept}
@@ -30,10 +31,6 @@ use Rattle.chain.specs.Sweep.{OfSystem, OneSwept}
 pub record Holds (F : Figures) (w : Working) : Type 0 where
   pub inside : Inside (parts (F .last)) (w .mean)
   pub residues : (k : ℕ) → k < parts (F .last) → part (w .residues) k ≡ residue (figuresOf F) (part (meanOf (F .last) (w .mean))) k
-
-pub record Started (F : Figures) (μ : List ℤ) (w : Working) : Type 0 where
-  pub mean : w .mean ≡ μ
-  pub holds : Holds F w
 
 pub record Sweeps (F : Figures) (w : Working) : Type 0 where
   pub fitting : Fitting (figuresOf F)
@@ -104,6 +101,10 @@ module _ (F : Figures) where
 
     pub swept-holds : Holds F r
     swept-holds = held-holds r (swept .inside) (swept .residues ∙ holds-held w h)
+
+  -- a mean with the residues that were found of it
+  pub started : (μ v : List ℤ) → Inside (parts (F .last)) μ → ResiduesOf (F .last) (F .matrix) (F .«right_hand») μ v → Holds F (record { mean = μ; residues = v })
+  started μ v inside found = record { inside = inside; residues = residues-are F μ v found }
 
   -- ---- the test of a working mean
 

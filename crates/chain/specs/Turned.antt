@@ -1,6 +1,6 @@
 -- An array of 31 numbers that is rewritten from the front: below k it has its new numbers already, from k on still its old ones.
 use Prim.Native.Nat.{ℕ, zero, suc, _+_, _≤_, _<_}
-use mathlib.Core.Path.{_≡_, refl, ap, sym, _∙_}
+use mathlib.Core.Path.{_≡_, refl, ap, sym, subst, _∙_}
 use mathlib.Core.Logic.{_⊎_, inl, inr}
 use mathlib.Core.List.{List}
 use native.Mathlib.Nat.{eq-or-lt-of-le}
@@ -36,3 +36,11 @@ module _ {fresh old : ℕ → ℤ} {v : List ℤ} where
       by-place : (i : ℕ) → (i ≡ k) ⊎ (i < k) → part (set v k z) i ≡ fresh i
       by-place i (inl here) = ap (part (set v k z)) here ∙ getD-set-same v k z (pos 0) (omega (arith, h .long)) ∙ e ∙ ap fresh (sym here)
       by-place i (inr earlier) = getD-set-other v k i z (pos 0) (λ same. omega arith) ∙ h .front i earlier
+
+-- what holds below k and at k holds below k + 1
+pub here-or-before : (P : ℕ → Type 0) (k : ℕ) → P k → ((i : ℕ) → i < k → P i) → (i : ℕ) → i < k + 1 → P i
+here-or-before P k here before i below = by-place (eq-or-lt-of-le (omega arith))
+  where
+    by-place : (i ≡ k) ⊎ (i < k) → P i
+    by-place (inl same) = subst P (sym same) here
+    by-place (inr earlier) = before i earlier

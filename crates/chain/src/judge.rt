@@ -1,10 +1,8 @@
-// The test of a mean: |residue| ≤ e·D at each part.
+// The test of a mean by its residues: |residue| ≤ e·D at each part.
 ghost use mathlib.Core.Path.{_≡_};
 ghost use lib.IntN.{natAbs};
-ghost use Rattle.chain.specs.Judge.{OwnFits, Tested, Passes, Judges, Judged, judgementOf};
+ghost use Rattle.chain.specs.Judge.{OwnFits, Tested, Passes, judgementOf};
 ghost use Rattle.definitions.specs.Matrix.{isPassed};
-use crate::figures::Figures;
-use crate::residues::residues;
 
 pub enum Judgement {
     Passed,
@@ -19,7 +17,7 @@ pub fn size(z: i64) -> u64
     if z < 0 { (-1 - z) as u64 + 1 } else { z as u64 }
 }
 
-// The test of residues that are at hand.
+// The first part that fails, or that all pass.
 pub fn test<'a>(
     last: usize,
     closeness: u64,
@@ -39,17 +37,6 @@ pub fn test<'a>(
         }
     }
     Judgement::Passed
-}
-
-// The test of a mean.
-pub fn judge(figures: Figures, mean: [i64; 31]) -> Judgement
-    requires { ⌜ Judges figures mean ⌝ }
-    ensures { λ r. ⌜ Judged figures mean r ⌝ }
-{
-    let last = figures.last;
-    let closeness = figures.closeness;
-    let found = residues(last, &figures.matrix, &figures.right_hand, &mean);
-    test(last, closeness, &figures.own, &found)
 }
 
 // A judgement as a yes or no.

@@ -1,11 +1,9 @@
 // One sweep, and the sweeps of a call.
-ghost use Rattle.chain.specs.Judge.{Judges};
 ghost use Rattle.chain.specs.Sweep.{OfSystem, OneSwept};
-ghost use Rattle.chain.specs.Sweeps.{Started, Sweeps, SweptTo};
-use crate::figures::Figures;
+ghost use Rattle.chain.specs.Arrays.{figuresAt};
+ghost use Rattle.chain.specs.Sweeps.{Sweeps, SweptTo};
 use crate::figures::Working;
 use crate::judge::passes;
-use crate::residues::residues;
 use crate::step::step;
 
 const SWEEP_LIMIT: u64 = 4096;
@@ -15,19 +13,6 @@ pub struct Swept {
     pub working: Working,
     pub total: u64,
     pub passes: bool,
-}
-
-// A mean with its residues, to start from.
-pub fn with_residues(figures: Figures, mean: [i64; 31]) -> Working
-    requires { ⌜ Judges figures mean ⌝ }
-    ensures { λ r. ⌜ Started figures mean r ⌝ }
-{
-    let last = figures.last;
-    let found = residues(last, &figures.matrix, &figures.right_hand, &mean);
-    Working {
-        mean,
-        residues: found,
-    }
 }
 
 // One step of each part, in order.
@@ -45,17 +30,25 @@ pub fn one_sweep(last: usize, matrix: &[i64; 961], working: Working) -> Working
     current
 }
 
-// Up to n sweeps, none once the mean passes or the total is 4,096.
-pub fn sweeps(figures: Figures, working: Working, total: u64, n: u64) -> Swept
-    requires { ⌜ Sweeps figures working ⌝ }
-    ensures { λ r. ⌜ SweptTo figures working total n r ⌝ }
+// Up to n sweeps, none once the mean passes or the total is 4,096. The right-hand side is in the residues: it is lent for the
+// contract, which speaks of it.
+pub fn sweeps<'a>(
+    last: usize,
+    closeness: u64,
+    own: &'a [u64; 31],
+    matrix: &'a [i64; 961],
+    _right_hand: &'a [i64; 31],
+    working: Working,
+    total: u64,
+    n: u64,
+) -> Swept
+    requires { ⌜ Sweeps (figuresAt last closeness (now own) (now matrix) (now «_right_hand»)) working ⌝ }
+    ensures { λ r. ⌜ SweptTo (figuresAt last closeness (now (own .entry)) (now (matrix .entry)) (now («_right_hand» .entry))) working total n r ⌝ }
 {
-    let last = figures.last;
-    let closeness = figures.closeness;
     let mut current = working;
     let mut run = total;
     let mut left = n;
-    let mut passed = passes(last, closeness, &figures.own, &current.residues);
+    let mut passed = passes(last, closeness, own, &current.residues);
     while 0 < left {
         if passed {
             return Swept {
@@ -71,10 +64,10 @@ pub fn sweeps(figures: Figures, working: Working, total: u64, n: u64) -> Swept
                 passes: false,
             };
         }
-        current = one_sweep(last, &figures.matrix, current);
+        current = one_sweep(last, matrix, current);
         run += 1;
         left -= 1;
-        passed = passes(last, closeness, &figures.own, &current.residues);
+        passed = passes(last, closeness, own, &current.residues);
     }
     Swept {
         working: current,

@@ -30,7 +30,7 @@ use Rattle.session.specs.declared.answers.SweepAnswer.{SweepAnswer}
 use Rattle.session.specs.declared.answers.SweepAnswer.the-variants.{Settled, Going, Refused as SweepRefused}
 use Rattle.session.specs.declared.answers.ReadAnswer.{ReadAnswer}
 use Rattle.session.specs.declared.answers.ReadAnswer.the-variants.{Written, Refused as ReadRefused}
-use Rattle.session.specs.declared.calls.Sweeping.{Sweeping}
+use Rattle.session.specs.declared.answers.Sweeping.{Sweeping}
 use Rattle.session.specs.State.{Fits, stateOf, stateOf-held, stateOf-empty}
 use Rattle.session.specs.Calls as C
 use Rattle.session.specs.Calls.{judgesTo, sweepsTo, readsTo, Opens, Judges, Sweeps, Reads}

@@ -1,8 +1,8 @@
 -- The contracts of the calls: each answer, and the state and buffer afterwards, are the machine's; a refused call gives back the very session that it took;
 -- and where a mean passes, the caller is told what it is worth.
-use Prim.Native.Nat.{ℕ, _≤_, _<_}
+use Prim.Native.Nat.{ℕ, _≤_}
 use mathlib.Core.Path.{_≡_}
-use mathlib.Core.Bool.{true, false}
+use mathlib.Core.Bool.{true}
 use mathlib.Core.List.{List}
 use lib.IntN.{ℤ}
 use Rattle.definitions.specs.Words.{part}
@@ -14,9 +14,7 @@ use Rattle.definitions.specs.Machine.{Answer, opened, judged, settled, going, w
 use Rattle.definitions.specs.Guarantee.{Guarantee}
 use Rattle.definitions.specs.Sweep.{sweepLimit}
 use Rattle.chain.specs.declared.figures.Working.{Working}
-use Rattle.chain.specs.Arrays as A
-use Rattle.chain.specs.Arrays.{figuresOf}
-use Rattle.chain.specs.Sweeps.{Started}
+use Rattle.chain.specs.Sweeps.{Holds}
 use Rattle.session.specs.declared.Session.{Session}
 use Rattle.session.specs.declared.answers.OpenAnswer.{OpenAnswer}
 use Rattle.session.specs.declared.answers.OpenAnswer.the-variants.{Opened, Refused as OpenRefused}
@@ -26,8 +24,8 @@ use Rattle.session.specs.declared.answers.SweepAnswer.{SweepAnswer}
 use Rattle.session.specs.declared.answers.SweepAnswer.the-variants.{Settled, Going, Refused as SweepRefused}
 use Rattle.session.specs.declared.answers.ReadAnswer.{ReadAnswer}
 use Rattle.session.specs.declared.answers.ReadAnswer.the-variants.{Written, Refused as ReadRefused}
-use Rattle.session.specs.declared.calls.Opening.{Opening}
-use Rattle.session.specs.declared.calls.Sweeping.{Sweeping}
+use Rattle.session.specs.declared.answers.Opening.{Opening}
+use Rattle.session.specs.declared.answers.Sweeping.{Sweeping}
 use Rattle.session.specs.State.{Fits, stateOf}
 
 -- ---- document 01's number, place and values for every case of an answer
@@ -76,18 +74,13 @@ pub record Judges (s : Session) (meanRecord : Bytes) (r : JudgeAnswer) : Type 0 
   -- whoever proposed the mean
   pub worth : (f : Bytes) (μ : List ℤ) (total : ℕ) → accepted f ≡ true → stateOf s ≡ holds (D.figuresOf f) μ total → r ≡ Passed → Guarantee f (part (meanOf (lastYear f) meanRecord))
 
--- a sweep of an open file, with a number inside its limits
-pub record OpenSweep (s : Session) (n : ℕ) : Type 0 where
+-- a sweep of an open file, with a number inside its limits and the mean that is held with its residues
+pub record OpenSweep (s : Session) (w : Working) (n : ℕ) : Type 0 where
   pub fits : Fits s
+  pub mean : w .mean ≡ s .mean
+  pub holds-mean : Holds (s .figures) w
   pub from : 1 ≤ n
   pub to : n ≤ sweepLimit
-
--- with the residues of its mean, which does not pass, and fewer sweeps than may be run
-pub record Unsettled (s : Session) (w : Working) (n : ℕ) : Type 0 where
-  pub open-sweep : OpenSweep s n
-  pub started : Started (s .figures) (s .mean) w
-  pub fails : D.passes (figuresOf (s .figures)) (part (A.meanOf (s .figures .last) (s .mean))) ≡ false
-  pub more : s .total < sweepLimit
 
 pub record Sweeps (s : Session) (n : ℕ) (r : Sweeping) : Type 0 where
   pub answer : ofSweep (r .answer) ≡ sweepsTo (stateOf s) n .answer

@@ -8,13 +8,14 @@ use lib.Signed.{_≤ℤ_}
 use Rattle.integers.specs.Total.{total-cong, sizes}
 use Rattle.definitions.specs.Words.{tabFrom, part}
 use Rattle.definitions.specs.Layout.{parts}
-use Rattle.definitions.specs.Refusals.{yearLimit, closenessLimit}
 use Rattle.definitions.specs.Matrix.{entry}
 use Rattle.laws.specs.Judged.{tab-at}
 use Rattle.chain.specs.declared.figures.Figures.{Figures}
-use Rattle.chain.specs.Arrays.{figuresOf, cell}
-use Rattle.chain.specs.Fitting.{Fitting, Inside, rowLimit, ownLimit, rightHandLimit}
-use Rattle.session.specs.Bounds.{FiguresFit}
+use Rattle.chain.specs.Arrays.{figuresAt, figuresOf, cell}
+use Rattle.chain.specs.Fitting.{Inside, rowLimit, ownLimit, rightHandLimit}
+use Rattle.chain.specs.Residues.{RowsFit, OfMean}
+use Rattle.session.specs.Bounds.{FrameFits}
+use Rattle.session.specs.State.{Fits, sessionAt}
 
 module _ (F : Figures) where
   own-at : (k : ℕ) → k < parts (F .last) → getD (figuresOf F .own) k 0 ≡ getD (F .own) k 0
@@ -33,28 +34,46 @@ module _ (F : Figures) where
   row-at : (k : ℕ) → k < parts (F .last) → sizes (parts (F .last)) (entry (figuresOf F) k) ≡ sizes (parts (F .last)) (cell (F .matrix) k)
   row-at k below = total-cong (parts (F .last)) (λ l l-below. ap natAbs (entry-of k l below l-below))
 
-  pub fitted : (μ : List ℤ) → F .last ≤ yearLimit → F .closeness ≤ closenessLimit → FiguresFit (F .own) (F .matrix) (F .«right_hand») μ (parts (F .last)) → Fitting (figuresOf F)
-  unfolding figuresOf
-  fitted μ years close h = record {
-    years = years;
-    close = close;
-    own-weights = λ k below. subst (λ n. n ≤ ownLimit) (sym (own-at k below)) (h k below .of-part .own-to);
-    rows = λ k below. subst (λ n. n ≤ rowLimit) (sym (row-at k below)) (h k below .of-row);
-    diagonal = λ k below. subst (λ z. pos 1 ≤ℤ z) (sym (entry-of k k below below)) (h k below .of-part .diagonal-from);
-    right-hand = λ k below. subst (λ z. natAbs z ≤ rightHandLimit) (sym (right-hand-at k below)) (h k below .of-part .right-hand-to);
-  }
+module _ {last closeness total : ℕ} {D : List ℕ} {A b μ : List ℤ} where
+  pub asks-residues : FrameFits last closeness total D A b μ → {ν : List ℤ} → Inside (parts last) ν → OfMean last b ν
+  asks-residues h inside = record { years = h .years; inside = inside; right-hand = λ k below. h .parts-fit k below .right-hand-to }
 
-  pub means-inside : (μ : List ℤ) → FiguresFit (F .own) (F .matrix) (F .«right_hand») μ (parts (F .last)) → Inside (parts (F .last)) μ
-  means-inside μ h = record { small = λ k below. h k below .of-part .mean-to }
+  pub held-inside : FrameFits last closeness total D A b μ → Inside (parts last) μ
+  held-inside h = record { small = λ k below. h .parts-fit k below .mean-to }
 
-  pub fits-back : (μ : List ℤ) → Fitting (figuresOf F) → Inside (parts (F .last)) μ → FiguresFit (F .own) (F .matrix) (F .«right_hand») μ (parts (F .last))
+  -- a session fits exactly if its frame and its rows do
+  pub fits : FrameFits last closeness total D A b μ → RowsFit A (parts last) → Fits (sessionAt last closeness total D A b μ)
   unfolding figuresOf
-  fits-back μ h inside k below = record {
-    of-part = record {
-      own-to = subst (λ n. n ≤ ownLimit) (own-at k below) (h .own-weights k below);
-      diagonal-from = subst (λ z. pos 1 ≤ℤ z) (entry-of k k below below) (h .diagonal k below);
-      right-hand-to = subst (λ z. natAbs z ≤ rightHandLimit) (right-hand-at k below) (h .right-hand k below);
-      mean-to = inside .small k below;
+  fits h rows = record {
+    holding = h .holding;
+    fitting = record {
+      years = h .years;
+      close = h .close;
+      own-weights = λ k below. subst (λ n. n ≤ ownLimit) (sym (own-at (figuresAt last closeness D A b) k below)) (h .parts-fit k below .own-to);
+      rows = λ k below. subst (λ n. n ≤ rowLimit) (sym (row-at (figuresAt last closeness D A b) k below)) (rows k below);
+      diagonal = λ k below. subst (λ z. pos 1 ≤ℤ z) (sym (entry-of (figuresAt last closeness D A b) k k below below)) (h .parts-fit k below .diagonal-from);
+      right-hand = λ k below. subst (λ z. natAbs z ≤ rightHandLimit) (sym (right-hand-at (figuresAt last closeness D A b) k below)) (h .parts-fit k below .right-hand-to);
     };
-    of-row = subst (λ n. n ≤ rowLimit) (row-at k below) (h .rows k below);
+    inside = held-inside h;
+    few = h .few;
   }
+
+  module _ (h : Fits (sessionAt last closeness total D A b μ)) where
+    pub frame : FrameFits last closeness total D A b μ
+    unfolding figuresOf
+    frame = record {
+      holding = h .holding;
+      years = h .fitting .years;
+      close = h .fitting .close;
+      few = h .few;
+      parts-fit = λ k below. record {
+        own-to = subst (λ n. n ≤ ownLimit) (own-at (figuresAt last closeness D A b) k below) (h .fitting .own-weights k below);
+        diagonal-from = subst (λ z. pos 1 ≤ℤ z) (entry-of (figuresAt last closeness D A b) k k below below) (h .fitting .diagonal k below);
+        right-hand-to = subst (λ z. natAbs z ≤ rightHandLimit) (right-hand-at (figuresAt last closeness D A b) k below) (h .fitting .right-hand k below);
+        mean-to = h .inside .small k below;
+      };
+    }
+
+    pub rows : RowsFit A (parts last)
+    unfolding figuresOf
+    rows k below = subst (λ n. n ≤ rowLimit) (row-at (figuresAt last closeness D A b) k below) (h .fitting .rows k below)

@@ -10,6 +10,7 @@ use Rattle.definitions.specs.Layout.{Bytes, parts, lastYear}
 use Rattle.definitions.specs.Refusals.{partLimit}
 use Rattle.definitions.specs.Matrix as D
 use Rattle.definitions.specs.Machine.{State, empty, holds, Call}
+use Rattle.laws.specs.Accepted.{accepted-file}
 use Rattle.laws.specs.Judged.{tab-at}
 use Rattle.laws.specs.MachineLaws.{Good, after, reached-good}
 use Rattle.chain.specs.Arrays.{figuresOf, meanOf}
@@ -31,7 +32,6 @@ open-fits s F μ total e = by-case (decFits s)
 
 -- what a session keeps of a file, a mean and a total
 pub record Keeps (s : Session) (f : Bytes) (μ : List ℤ) (total : ℕ) : Type 0 where
-  pub holding : s .held ≡ true
   pub figures : figuresOf (s .figures) ≡ D.figuresOf f
   pub mean : meanOf (s .figures .last) (s .mean) ≡ μ
   pub count : s .total ≡ total
@@ -47,7 +47,7 @@ module _ (s : Session) (f : Bytes) (μ : List ℤ) (total : ℕ) (keeps : Keeps 
   -- a good state fits
   pub good-fits : Good (holds f μ total) → Fits s
   good-fits g = record {
-    holding = keeps .holding;
+    holding = omega (arith, same-year, accepted-file f (g .0) .years .from);
     fitting = subst Fitting (sym (keeps .figures)) (accepted-fits f (g .0));
     inside = record { small = λ k below. subst (λ z. natAbs z ≤ partLimit) (sym (part-is k below)) (g .1 .inside k) };
     few = omega (arith, keeps .count, g .2);

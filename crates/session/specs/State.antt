@@ -1,13 +1,14 @@
 -- What a session stands for.
 use Prim.Native.Nat.{ℕ, zero, suc, _≤_, _<_}
-use mathlib.Core.Path.{_≡_, refl, sym, subst, _∙_}
+use mathlib.Core.Path.{_≡_, refl, sym, subst}
 use mathlib.Core.Logic.{_⊎_, inl, inr}
 use native.Mathlib.Nat.{eq-or-lt-of-le}
-use mathlib.Core.Bool.{Bool, true, false, true≢false}
+use mathlib.Core.Bool.{Bool, true, false}
+use mathlib.Core.List.{List}
 use native.Mathlib.Decide.{decLe}
 use native.Mathlib.Omega.{arith}
 use lib.Dec.{T}
-use lib.IntN.{pos, natAbs}
+use lib.IntN.{ℤ, pos, natAbs}
 use lib.ListN.{getD}
 use lib.Signed.{leZ, leZ-yes}
 use Rattle.integers.specs.Total.{sizes}
@@ -18,13 +19,21 @@ use Rattle.definitions.specs.Matrix.{entry}
 use Rattle.definitions.specs.Matrix as D
 use Rattle.definitions.specs.Sweep.{sweepLimit}
 use Rattle.definitions.specs.Machine.{State, empty, holds}
-use Rattle.chain.specs.Arrays.{figuresOf, meanOf}
+use Rattle.chain.specs.Arrays.{figuresAt, figuresOf, meanOf}
 use Rattle.chain.specs.Fitting.{Fitting, Inside, rowLimit, ownLimit, rightHandLimit}
 use Rattle.session.specs.declared.Session.{Session}
 
+-- a session whose parts are lent one by one
+abbrev pub sessionAt : ℕ → ℕ → ℕ → List ℕ → List ℤ → List ℤ → List ℤ → Session
+sessionAt last closeness total own A b μ = record { figures = figuresAt last closeness own A b; mean = μ; total = total }
+
+-- the same with J, the closeness and the total in one array
+abbrev pub sessionHeld : List ℕ → List ℕ → List ℤ → List ℤ → List ℤ → Session
+sessionHeld held own A b μ = sessionAt (getD held 0 0) (getD held 1 0) (getD held 2 0) own A b μ
+
 -- something is held, and the figures, the mean and the total are inside the bounds that the arithmetic needs
 pub record Fits (s : Session) : Type 0 where
-  pub holding : s .held ≡ true
+  pub holding : 1 ≤ s .figures .last
   pub fitting : Fitting (figuresOf (s .figures))
   pub inside : Inside (parts (s .figures .last)) (s .mean)
   pub few : s .total ≤ sweepLimit
@@ -79,16 +88,16 @@ decFitting F =
 
 pub decFits : (s : Session) → Dec (Fits s)
 decFits s =
-    all (s .held) refl (decFitting (figuresOf (s .figures)))
+    all (decLe 1 (s .figures .last)) (decFitting (figuresOf (s .figures)))
     (every (parts (s .figures .last)) (λ k. natAbs (part (s .mean) k) ≤ partLimit) (λ k. decLe (natAbs (part (s .mean) k)) partLimit)) (decLe (s .total) sweepLimit)
   where
-    all : (b : Bool) → s .held ≡ b → Dec (Fitting (figuresOf (s .figures)))
+    all : Dec (1 ≤ s .figures .last) → Dec (Fitting (figuresOf (s .figures)))
         → Dec ((k : ℕ) → k < parts (s .figures .last) → natAbs (part (s .mean) k) ≤ partLimit) → Dec (s .total ≤ sweepLimit) → Dec (Fits s)
-    all false e a b c = no (λ h. true≢false (sym (h .holding) ∙ e))
-    all true e (no a) b c = no (λ h. a (h .fitting))
-    all true e (yes a) (no b) c = no (λ h. b (h .inside .small))
-    all true e (yes a) (yes b) (no c) = no (λ h. c (h .few))
-    all true e (yes a) (yes b) (yes c) = yes (record { holding = e; fitting = a; inside = record { small = b }; few = c })
+    all (no e) a b c = no (λ h. e (h .holding))
+    all (yes e) (no a) b c = no (λ h. a (h .fitting))
+    all (yes e) (yes a) (no b) c = no (λ h. b (h .inside .small))
+    all (yes e) (yes a) (yes b) (no c) = no (λ h. c (h .few))
+    all (yes e) (yes a) (yes b) (yes c) = yes (record { holding = e; fitting = a; inside = record { small = b }; few = c })
 
 -- ---- its state
 

@@ -14,11 +14,11 @@ use Rattle.chain.specs.declared.figures.Working.{Working}
 use Rattle.chain.specs.declared.sweep.Swept.{Swept}
 use Rattle.chain.specs.Arrays.{figuresOf, meanOf}
 use Rattle.chain.specs.Judge.{Passes}
-use Rattle.chain.specs.Sweeps.{Started, SweptTo, passes-is}
+use Rattle.chain.specs.Sweeps.{SweptTo, passes-is}
 use Rattle.session.specs.declared.Session.{Session}
 use Rattle.session.specs.declared.answers.SweepAnswer.the-variants.{Settled, Going, Refused}
 use Rattle.session.specs.State.{Fits, stateOf-held}
-use Rattle.session.specs.Calls.{OpenSweep, Unsettled, Sweeps}
+use Rattle.session.specs.Calls.{OpenSweep, Sweeps}
 use Rattle.session.specs.CallLaws.{sweeps-settled, sweeps-spent, sweeps-done, sweeps-going}
 
 module _ (s : Session) (n : ℕ) where
@@ -28,43 +28,41 @@ module _ (s : Session) (n : ℕ) where
   abbrev μ : List ℤ
   μ = meanOf (s .figures .last) (s .mean)
 
-  inside : OpenSweep s n → within 1 sweepLimit n ≡ true
-  inside h = within-yes refl (h .from) (h .to)
+  module _ {w : Working} (h : OpenSweep s w n) {p : Bool} (tested : Passes (s .figures .last) (s .figures .closeness) (s .figures .own) (w .residues) p) where
+    number-inside : within 1 sweepLimit n ≡ true
+    number-inside = within-yes refl (h .from) (h .to)
 
-  module _ (h : OpenSweep s n) (w : Working) (start : Started (s .figures) (s .mean) w) {p : Bool} (tested : Passes (s .figures .last) (s .figures .closeness) (s .figures .own) (w .residues) p) where
     -- the mean that is held passes or fails as its residues do
     held-passes : passes F (part μ) ≡ p
-    held-passes = ap (λ m. passes F (part (meanOf (s .figures .last) m))) (sym (start .mean)) ∙ sym (passes-is (s .figures) w (start .holds) tested)
+    held-passes = ap (λ m. passes F (part (meanOf (s .figures .last) m))) (sym (h .mean)) ∙ sym (passes-is (s .figures) w (h .holds-mean) tested)
 
     pub settled : p ≡ true → Sweeps s n (record { answer = Settled (s .total); session = s })
-    settled e = sweeps-settled s n (h .fits) (inside h) (held-passes ∙ e)
+    settled e = sweeps-settled s n (h .fits) number-inside (held-passes ∙ e)
 
     pub spent : p ≡ false → sweepLimit ≤ s .total → Sweeps s n (record { answer = Refused 23 0; session = s })
-    spent e most = sweeps-spent s n (h .fits) (inside h) (held-passes ∙ e) most
+    spent e most = sweeps-spent s n (h .fits) number-inside (held-passes ∙ e) most
 
-    pub unsettled : p ≡ false → s .total < sweepLimit → Unsettled s w n
-    unsettled e more = record { open-sweep = h; started = start; fails = held-passes ∙ e; more = more }
+    -- the sweeps of a mean that does not pass, while some are left
+    module _ (e : p ≡ false) (more : s .total < sweepLimit) {r : Swept} (swept : SweptTo (s .figures) w (s .total) n r) where
+      abbrev after : Session
+      after = record { figures = s .figures; mean = r .working .mean; total = r .total }
 
-  module _ {w : Working} (h : Unsettled s w n) {r : Swept} (swept : SweptTo (s .figures) w (s .total) n r) where
-    abbrev after : Session
-    after = record { held = true; figures = s .figures; mean = r .working .mean; total = r .total }
+      abbrev ν : List ℤ
+      ν = meanOf (s .figures .last) (r .working .mean)
 
-    abbrev ν : List ℤ
-    ν = meanOf (s .figures .last) (r .working .mean)
+      end : sweeps F n μ (s .total) ≡ record { mean = ν; swept = r .total }
+      end = ap (λ m. sweeps F n (meanOf (s .figures .last) m) (s .total)) (sym (h .mean)) ∙ sym (swept .is)
 
-    end : sweeps F n μ (s .total) ≡ record { mean = ν; swept = r .total }
-    end = ap (λ m. sweeps F n (meanOf (s .figures .last) m) (s .total)) (sym (h .started .mean)) ∙ sym (swept .is)
+      after-fits : Fits after
+      after-fits = record {
+        holding = h .fits .holding;
+        fitting = h .fits .fitting;
+        inside = swept .holds .inside;
+        few = subst (λ t. t ≤ sweepLimit) (ap (λ x. x .swept) end) (sweeps-total F n μ (s .total) (h .fits .few));
+      }
 
-    after-fits : Fits after
-    after-fits = record {
-      holding = refl;
-      fitting = h .open-sweep .fits .fitting;
-      inside = swept .holds .inside;
-      few = subst (λ t. t ≤ sweepLimit) (ap (λ x. x .swept) end) (sweeps-total F n μ (s .total) (h .open-sweep .fits .few));
-    }
+      pub done : r .passes ≡ true → Sweeps s n (record { answer = Settled (r .total); session = after })
+      done passing = sweeps-done s n (h .fits) number-inside (held-passes ∙ e) more after ν (stateOf-held after after-fits) end (sym (swept .passing) ∙ passing)
 
-    pub done : r .passes ≡ true → Sweeps s n (record { answer = Settled (r .total); session = after })
-    done e = sweeps-done s n (h .open-sweep .fits) (inside (h .open-sweep)) (h .fails) (h .more) after ν (stateOf-held after after-fits) end (sym (swept .passing) ∙ e)
-
-    pub still-going : r .passes ≡ false → Sweeps s n (record { answer = Going (r .total); session = after })
-    still-going e = sweeps-going s n (h .open-sweep .fits) (inside (h .open-sweep)) (h .fails) (h .more) after ν (stateOf-held after after-fits) end (sym (swept .passing) ∙ e)
+      pub still-going : r .passes ≡ false → Sweeps s n (record { answer = Going (r .total); session = after })
+      still-going failing = sweeps-going s n (h .fits) number-inside (held-passes ∙ e) more after ν (stateOf-held after after-fits) end (sym (swept .passing) ∙ failing)

@@ -1,4 +1,6 @@
 // What the calls answer. A refusal has document 01's number and place.
+use crate::Session;
+
 pub enum OpenAnswer {
     Opened,
     Refused(u64, usize),
@@ -21,4 +23,15 @@ pub enum SweepAnswer {
 pub enum ReadAnswer {
     Written,
     Refused(u64, usize),
+}
+
+// An answer, with the session afterwards.
+pub struct Opening {
+    pub answer: OpenAnswer,
+    pub session: Session,
+}
+
+pub struct Sweeping {
+    pub answer: SweepAnswer,
+    pub session: Session,
 }

@@ -1,29 +1,11 @@
 // The test of what a session holds. No value carries a proof, so every call tests what its arithmetic needs; a session that
-// fails it counts as empty. None that `open` made ever fails it.
-
-ghost use Rattle.session.specs.Bounds.{Decides, RowFits, OfRow, PartFits, FiguresFit, OfBounds};
-ghost use Rattle.session.specs.State.{Fits};
-use crate::Session;
+// fails it counts as empty. None that `open` made ever fails it. The rows of the matrix are tested where they are multiplied
+// (`chain::residues`), all else here.
+ghost use Rattle.chain.specs.Decides.{Decides};
+ghost use Rattle.session.specs.Bounds.{PartFits, PartsFit, OfBounds, FrameFits};
+ghost use Rattle.session.specs.State.{Fits, sessionAt};
 use chain::judge::size;
-
-// The sizes of a row come to at most 9·2^32. The sum is tested before each size is added, so that it cannot wrap.
-fn row_fits(matrix: &[i64; 961], count: usize, k: usize) -> bool
-    requires { ⌜ OfRow count k ⌝ }
-    ensures { λ r. ⌜ Decides (RowFits (now (matrix .entry)) count k) r ⌝ }
-{
-    let row = 31 * k;
-    let mut sum = 0u64;
-    let mut l = 0usize;
-    while l < count {
-        let more = size(matrix[row + l]);
-        if 38654705664 - sum < more {
-            return false;
-        }
-        sum += more;
-        l += 1;
-    }
-    true
-}
+use chain::residues::residues;
 
 // A part's own weight, its diagonal entry, its right-hand side and its mean.
 fn part_fits(own: u64, diagonal: i64, right_hand: i64, mean: i64) -> bool
@@ -44,8 +26,7 @@ fn part_fits(own: u64, diagonal: i64, right_hand: i64, mean: i64) -> bool
     true
 }
 
-// Every part and every row.
-fn figures_fit<'a>(
+fn parts_fit<'a>(
     count: usize,
     own: &'a [u64; 31],
     matrix: &'a [i64; 961],
@@ -53,14 +34,11 @@ fn figures_fit<'a>(
     mean: &'a [i64; 31],
 ) -> bool
     requires { ⌜ OfBounds count ⌝ }
-    ensures { λ r. ⌜ Decides (FiguresFit (now (own .entry)) (now (matrix .entry)) (now («right_hand» .entry)) (now (mean .entry)) count) r ⌝ }
+    ensures { λ r. ⌜ Decides (PartsFit (now (own .entry)) (now (matrix .entry)) (now («right_hand» .entry)) (now (mean .entry)) count) r ⌝ }
 {
     let mut k = 0usize;
     while k < count {
         if !part_fits(own[k], matrix[31 * k + k], right_hand[k], mean[k]) {
-            return false;
-        }
-        if !row_fits(matrix, count, k) {
             return false;
         }
         k += 1;
@@ -68,30 +46,48 @@ fn figures_fit<'a>(
     true
 }
 
-// Whether a file is open: something is held, and it is inside the bounds.
-pub fn is_open(s: Session) -> bool
-    ensures { λ r. ⌜ Decides (Fits s) r ⌝ }
+// Whether something is held, and all but the rows is inside the bounds.
+pub fn frame_fits<'a>(
+    last: usize,
+    closeness: u64,
+    total: u64,
+    own: &'a [u64; 31],
+    matrix: &'a [i64; 961],
+    right_hand: &'a [i64; 31],
+    mean: &'a [i64; 31],
+) -> bool
+    ensures { λ r. ⌜ Decides (FrameFits last closeness total (now (own .entry)) (now (matrix .entry)) (now («right_hand» .entry)) (now (mean .entry))) r ⌝ }
 {
-    let figures = s.figures;
-    let mean = s.mean;
-    let last = figures.last;
-    if !s.held {
+    if last < 1 {
         return false;
     }
     if 15 < last {
         return false;
     }
-    if 65536 < figures.closeness {
+    if 65536 < closeness {
         return false;
     }
-    if 4096 < s.total {
+    if 4096 < total {
         return false;
     }
-    figures_fit(
-        2 * last + 1,
-        &figures.own,
-        &figures.matrix,
-        &figures.right_hand,
-        &mean,
-    )
+    parts_fit(2 * last + 1, own, matrix, right_hand, mean)
+}
+
+// Whether a file is open.
+pub fn is_open<'a>(
+    last: usize,
+    closeness: u64,
+    total: u64,
+    own: &'a [u64; 31],
+    matrix: &'a [i64; 961],
+    right_hand: &'a [i64; 31],
+    mean: &'a [i64; 31],
+) -> bool
+    ensures { λ r. ⌜ Decides (Fits (sessionAt last closeness total (now (own .entry)) (now (matrix .entry)) (now («right_hand» .entry)) (now (mean .entry)))) r ⌝ }
+{
+    if !frame_fits(last, closeness, total, own, matrix, right_hand, mean) {
+        return false;
+    }
+    let tested = residues(last, matrix, right_hand, mean);
+    tested.fit
 }

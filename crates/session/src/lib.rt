@@ -1,15 +1,17 @@
-// The calls of the desk. A session is a value: a call takes it and, where it may change, gives it back. No call asks anything of
-// its caller; each has one equation with document 01's machine, refused calls included.
+// The calls of the desk. A session is a value: a call takes it and, where it may change, gives it back. `lent` has the same calls
+// over a session whose arrays are lent one by one, so that none is copied. No call asks anything of its caller; each has one
+// equation with document 01's machine, refused calls included.
 use chain::figures::Figures;
 
 pub mod answers;
 mod bounds;
 pub mod calls;
+pub mod lent;
+mod opening;
 pub mod state;
 
-// Nothing, or the figures of an accepted file, the mean and the sweeps run since open.
+// Nothing (J = 0), or the figures of an accepted file, the mean and the sweeps run since open.
 pub struct Session {
-    held: bool,
     figures: Figures,
     mean: [i64; 31],
     total: u64,

@@ -17,7 +17,6 @@ pub fn empty() -> Session
         right_hand: [0; 31],
     };
     Session {
-        held: false,
         figures: figures,
         mean: [0; 31],
         total: 0,

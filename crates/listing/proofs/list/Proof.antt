@@ -5,8 +5,8 @@ use denote.Ref.{now}
 use Rattle.definitions.specs.Layout.{Bytes, lastYear}
 use Rattle.definitions.specs.Machine.{empty}
 use Rattle.session.specs.declared.Session.{Session}
-use Rattle.session.specs.declared.calls.Opening.{Opening}
-use Rattle.session.specs.declared.calls.Sweeping.{Sweeping}
+use Rattle.session.specs.declared.answers.Opening.{Opening}
+use Rattle.session.specs.declared.answers.Sweeping.{Sweeping}
 use Rattle.session.specs.State.{stateOf}
 use Rattle.session.specs.Calls.{Opens, Sweeps, ofOpen, ofSweep, opensTo, sweepsTo}
 use Rattle.listing.specs.Page.{in-words}

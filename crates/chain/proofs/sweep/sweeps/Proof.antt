@@ -1,21 +1,29 @@
 -- The sweeps of a call. Shown: what is left to run gives the whole result, and the working mean has its residues throughout (`Running`). Assumes nothing.
 use native.Mathlib.Omega.{arith}
+use denote.Ref.{now}
+use Rattle.chain.specs.declared.figures.Figures.{Figures}
+use Rattle.chain.specs.Arrays.{figuresAt}
 use Rattle.chain.specs.Judge.{own-fits}
 use Rattle.chain.specs.Sweeps.{Running, sweep-asks, run-first, run-settled, run-spent, run-next, run-out}
 use Rattle.chain.proofs.sweep.sweeps.Statement.{statement}
 use Rattle.chain.proofs.sweep.sweeps.Tie as tie
 
 abbrev Inv-loop : tie.InvT-loop
-Inv-loop total n figures last closeness current₀ run₀ left₀ passed₀ current run left passed = Running figures current₀ total n current run left passed
+Inv-loop last closeness own matrix right-hand total n current₀ run₀ left₀ passed₀ current run left passed =
+    Running (figuresAt last closeness own matrix right-hand) current₀ total n current run left passed
 
 abbrev μ-loop : tie.MeasureT-loop
-μ-loop total n figures last closeness current₀ run₀ left₀ passed₀ current run left passed = left
+μ-loop last closeness own matrix right-hand total n current₀ run₀ left₀ passed₀ current run left passed = left
+
+-- the figures that are lent
+abbrev F : tie.Start Inv-loop μ-loop → Figures
+F s = figuresAt (s .args .last) (s .args .closeness) (now (s .args .own)) (now (s .args .matrix)) (now (s .args .-right-hand))
 
 passes-requires : tie.Need-passes-requires Inv-loop μ-loop
-passes-requires c κs = let s = c .before .before .before .before in own-fits (s .args .t1) (s .pre .fitting)
+passes-requires c κs = let s = c .before .before in own-fits (F s) (s .pre .fitting)
 
 loop-holds : tie.Need-loop-holds Inv-loop μ-loop
-loop-holds c = let s = c .before .before .before .before .before in run-first (s .args .total) (s .args .n) (s .pre) (c .passes .ensures)
+loop-holds c = let s = c .before .before .before in run-first (s .args .total) (s .args .n) (s .pre) (c .passes .ensures)
 
 returns : tie.Need-returns Inv-loop μ-loop
 returns c = run-settled (c .before .before .loop .inv) (c .if1 .taken)
@@ -25,9 +33,9 @@ returns-2 c = run-spent (c .before .before .before .loop .inv) (c .before .if1 .
 
 one-sweep-requires : tie.Need-one-sweep-requires Inv-loop μ-loop
 one-sweep-requires c κs =
-    let at = c .before .before .before .before .before in
-    let s = at .before .before .before .before .before .before in
-    sweep-asks (s .args .t1) (at .loop .current) (s .pre .fitting) (at .loop .inv .holds)
+    let at = c .before .before .before in
+    let s = at .before .before .before .before in
+    sweep-asks (F s) (at .loop .current) (s .pre .fitting) (at .loop .inv .holds)
 
 add-run : tie.Need-add-run Inv-loop μ-loop
 add-run c = omega arith
@@ -36,15 +44,15 @@ sub-left : tie.Need-sub-left Inv-loop μ-loop
 sub-left c = omega arith
 
 passes-requires-2 : tie.Need-passes-requires-2 Inv-loop μ-loop
-passes-requires-2 c κs = let s = c .before .before .before .before .before .before .before .before .before .before .before .before .before .before .before .before in own-fits (s .args .t1) (s .pre .fitting)
+passes-requires-2 c κs = let s = c .before .before .before .before .before .before .before .before .before .before in own-fits (F s) (s .pre .fitting)
 
 loop-less : tie.Need-loop-less Inv-loop μ-loop
 loop-less c = omega arith
 
 loop-again : tie.Need-loop-again Inv-loop μ-loop
 loop-again c =
-    let swept = c .before .before .before .before .before in
-    let going = swept .before .before .before in
+    let swept = c .before .before .before in
+    let going = swept .before in
     run-next (going .before .before .before .loop .inv) (going .before .before .loop-test .taken) (going .before .if1 .left) (going .if2 .left) (swept .one-sweep .ensures)
     (c .passes2 .ensures)
 

@@ -9,7 +9,7 @@ use lib.Signed.{_≤ℤ_, _<ℤ_, clashℤ, ltZ-yes, ltZ-no}
 use mir.Syntax.{w64}
 use mir.Val.{toZ, ofZ}
 use mir.Facts.{toZ-ofZ}
-use Rattle.session.specs.Bounds.{decided-yes, decided-no}
+use Rattle.chain.specs.Decides.{decided-yes, decided-no}
 use borrow.Author.Needs.{needs}
 use Rattle.session.proofs.bounds.part_fits.Statement.{statement}
 use Rattle.session.proofs.bounds.part_fits.Tie as tie

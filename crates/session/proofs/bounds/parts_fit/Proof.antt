@@ -1,8 +1,6 @@
--- `bounds::figures_fit` meets its contract. The loop's invariant: the parts before k fit. The measure is how many are left. Assumes nothing.
+-- `bounds::parts_fit` meets its contract. The loop's invariant: the parts before k fit. The measure is how many are left. Assumes nothing.
 use Prim.Native.Nat.{ℕ, _-_, _≤_, _<_}
-use mathlib.Core.Path.{_≡_, sym, subst, subst₃}
-use mathlib.Core.Logic.{_⊎_, inl, inr}
-use native.Mathlib.Nat.{eq-or-lt-of-le}
+use mathlib.Core.Path.{subst₃}
 use native.Mathlib.Omega.{arith}
 use borrow.Author.Needs.{needs}
 use lib.ListN.{getD}
@@ -10,12 +8,14 @@ use denote.Ref.{now}
 use Rattle.definitions.specs.Words.{part}
 use Rattle.chain.specs.Arrays.{cell}
 use Rattle.chain.specs.Bits.{same}
-use Rattle.session.specs.Bounds.{Decides, PartFits, FitsAt, FirstFit, decided-yes, decided-no, not-yes, not-no}
-use Rattle.session.proofs.bounds.figures_fit.Statement.{statement}
-use Rattle.session.proofs.bounds.figures_fit.Tie as tie
+use Rattle.chain.specs.Decides.{Decides, decided-yes, decided-no, not-yes, not-no}
+use Rattle.chain.specs.Turned.{here-or-before}
+use Rattle.session.specs.Bounds.{PartFits, PartsFit}
+use Rattle.session.proofs.bounds.parts_fit.Statement.{statement}
+use Rattle.session.proofs.bounds.parts_fit.Tie as tie
 
 abbrev Inv-loop : tie.InvT-loop
-Inv-loop count own matrix right-hand mean k₀ k = (k ≤ count) × FirstFit own matrix right-hand mean count k
+Inv-loop count own matrix right-hand mean k₀ k = (k ≤ count) × PartsFit own matrix right-hand mean k
 
 abbrev μ-loop : tie.MeasureT-loop
 μ-loop count own matrix right-hand mean k₀ k = count - k
@@ -37,10 +37,10 @@ module _ (c : tie.After-part-fits Inv-loop μ-loop) where
   abbrev k : ℕ
   k = l .before .loop .k
 
-  abbrev OfThePart : Type 0
-  OfThePart = PartFits (getD (now (s .args .own)) k 0) (cell (now (s .args .matrix)) k k) (part (now (s .args .right-hand)) k) (part (now (s .args .mean)) k)
+  abbrev FitsAt : ℕ → Type 0
+  FitsAt j = PartFits (getD (now (s .args .own)) j 0) (cell (now (s .args .matrix)) j j) (part (now (s .args .right-hand)) j) (part (now (s .args .mean)) j)
 
-  decided : Decides OfThePart (c .part-fits .result)
+  decided : Decides (FitsAt k) (c .part-fits .result)
   decided =
       subst₃ (λ d b m. Decides (PartFits (getD (now (s .args .own)) k 0) d b m) (c .part-fits .result))
       (same (cell (now (s .args .matrix)) k k) (c .before .before .before .part-fits-arg2 .given))
@@ -84,15 +84,7 @@ part-fits-requires c κs = search needs
 returns : tie.Need-returns Inv-loop μ-loop
 returns c =
     let a = c .before in
-    decided-no (λ fits. decided a .when-no (not-yes (c .if1 .taken)) (fits (k a) (l a .loop-test .taken) .of-part))
-
-row-fits-requires : tie.Need-row-fits-requires Inv-loop μ-loop
-row-fits-requires c κs = let l = c .before .before .before .before .before .before in record { few = l .before .before .pre .few; below = l .loop-test .taken }
-
-returns-2 : tie.Need-returns-2 Inv-loop μ-loop
-returns-2 c =
-    let a = c .before .before .before in
-    decided-no (λ fits. c .before .row-fits .ensures .when-no (not-yes (c .if2 .taken)) (fits (k a) (l a .loop-test .taken) .of-row))
+    decided-no (λ fits. decided a .when-no (not-yes (c .if1 .taken)) (fits (k a) (l a .loop-test .taken)))
 
 add-k : tie.Need-add-k Inv-loop μ-loop
 add-k c = omega arith
@@ -102,24 +94,15 @@ loop-less c = omega arith
 
 loop-again : tie.Need-loop-again Inv-loop μ-loop
 loop-again c =
-    let a = c .before .before .before in
-    let y = l a .before .loop in (
-      omega (arith, l a .loop-test .taken),
-      λ j below. here-or-before (FitsAt (now (s a .args .own)) (now (s a .args .matrix)) (now (s a .args .right-hand)) (now (s a .args .mean)) (s a .args .count)) j (y .k)
-          (eq-or-lt-of-le (omega arith))
-          (record { of-part = decided a .when-yes (not-no (c .before .before .if1 .left)); of-row = c .before .row-fits .ensures .when-yes (not-no (c .if2 .left)) })
-          (y .inv .1 j),
-    )
-  where
-    here-or-before : (P : ℕ → Type 0) (j n : ℕ) → (j ≡ n) ⊎ (j < n) → P n → (j < n → P j) → P j
-    here-or-before P j n (inl same-part) here before = subst P (sym same-part) here
-    here-or-before P j n (inr less) here before = before less
+    let a = c .before in
+    let y = l a .before .loop in
+    (omega (arith, l a .loop-test .taken), here-or-before (FitsAt a) (y .k) (decided a .when-yes (not-no (c .if1 .left))) (y .inv .1))
 
-returns-3 : tie.Need-returns-3 Inv-loop μ-loop
-returns-3 c = let y = c .before .loop in decided-yes (λ j below. y .inv .1 j (omega arith))
+returns-2 : tie.Need-returns-2 Inv-loop μ-loop
+returns-2 c = let y = c .before .loop in decided-yes (λ j below. y .inv .1 j (omega arith))
 
-pub figures-fit-spec : {M : Type 1} → statement M
-figures-fit-spec =
+pub parts-fit-spec : {M : Type 1} → statement M
+parts-fit-spec =
     tie.close
     (tie.spec
     Inv-loop
@@ -137,9 +120,7 @@ figures-fit-spec =
     element-copy-out-part-fits-4
     part-fits-requires
     returns
-    row-fits-requires
-    returns-2
     add-k
     loop-less
     loop-again
-    returns-3)
+    returns-2)

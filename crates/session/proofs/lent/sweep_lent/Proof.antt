@@ -1,0 +1,70 @@
+-- `lent::sweep_lent` meets its contract: 21 and 12 come before the sweeps of an open file. Assumes nothing.
+use mathlib.Core.Path.{refl}
+use native.Mathlib.Omega.{arith}
+use borrow.Author.Needs.{needs}
+use denote.Ref.{now}
+use Rattle.layout.specs.CheckLaws.{within-low, within-high}
+use Rattle.chain.specs.Decides.{not-yes, not-no}
+use Rattle.chain.specs.Sweeps.{started}
+use Rattle.session.specs.declared.Session.{Session}
+use Rattle.session.specs.Bounds.{FrameFits}
+use Rattle.session.specs.State.{Fits, sessionAt}
+use Rattle.session.specs.CallLaws.{sweeps-closed, sweeps-outside}
+use Rattle.session.specs.Fitted.{asks-residues, held-inside, fits, frame, rows}
+use Rattle.session.proofs.lent.sweep_lent.Statement.{statement}
+use Rattle.session.proofs.lent.sweep_lent.Tie as tie
+
+frame-fits-requires : tie.Need-frame-fits-requires
+frame-fits-requires c κs = search needs
+
+returns : tie.Need-returns
+returns c = sweeps-closed _ _ (λ h. c .before .frame-fits .ensures .when-no (not-yes (c .if1 .taken)) (frame h))
+
+-- the session that is lent
+abbrev S : tie.Start → Session
+S s = sessionAt (s .args .last) (s .args .closeness) (now (s .args .total)) (now (s .args .own)) (now (s .args .matrix)) (now (s .args .right-hand)) (now (s .args .mean))
+
+-- the frame fits
+framed : (c : tie.Else1) → let s = c .before .before .before .before .before .args in FrameFits (s .last) (s .closeness) (now (s .total)) (now (s .own)) (now (s .matrix)) (now (s .right-hand)) (now (s .mean))
+framed c = c .before .frame-fits .ensures .when-yes (not-no (c .if1 .left))
+
+residues-requires : tie.Need-residues-requires
+residues-requires c κs = let f = framed (c .before) in asks-residues f (held-inside f)
+
+returns-2 : tie.Need-returns-2
+returns-2 c = sweeps-closed _ _ (λ h. c .before .before .residues .ensures .fit .when-no (not-yes (c .if2 .taken)) (rows h))
+
+-- a file is open
+open-file : (c : tie.Else2) → Fits (S (c .before .before .before .before .before .before .before .before .before))
+open-file c = fits (framed (c .before .before .before .before)) (c .before .before .residues .ensures .fit .when-yes (not-no (c .if2 .left)))
+
+returns-3 : tie.Need-returns-3
+returns-3 c = sweeps-outside _ _ (open-file (c .before)) (within-low 4096 refl (c .if3 .taken))
+
+returns-4 : tie.Need-returns-4
+returns-4 c = sweeps-outside _ _ (open-file (c .before .before)) (within-high 1 refl (c .if4 .taken))
+
+sweep-on-requires : tie.Need-sweep-on-requires
+sweep-on-requires c κs = record {
+  fits = open-file (c .before .before .before .before .before);
+  mean = refl;
+  holds-mean = started (S (c .before .before .before .before .before .before .before .before .before .before .before .before .before .before) .figures) _ _ (held-inside (framed (c .before .before .before .before .before .before .before .before .before))) (c .before .before .before .before .before .before .before .residues .ensures .are (not-no (c .before .before .before .before .before .if2 .left)));
+  from = omega (arith, c .before .before .before .before .if3 .left);
+  to = omega (arith, c .before .before .before .if4 .left);
+}
+
+returns-5 : tie.Need-returns-5
+returns-5 c = c .sweep-on .ensures
+
+pub sweep-lent-spec : {M : Type 1} → statement M
+sweep-lent-spec =
+    tie.close
+    (tie.spec
+    frame-fits-requires
+    returns
+    residues-requires
+    returns-2
+    returns-3
+    returns-4
+    sweep-on-requires
+    returns-5)

@@ -1,0 +1,215 @@
+// The calls over a session whose arrays are lent: the figures of the file (J, closeness, own weights, matrix and right-hand side),
+// the mean and the sweeps run since open. A call that is not refused changes what it is lent by `&mut` and nothing else.
+ghost use Rattle.session.specs.State.{sessionAt, sessionHeld};
+ghost use Rattle.session.specs.Calls.{Opens, Judges, OpenSweep, Sweeps, Reads};
+use crate::answers::JudgeAnswer;
+use crate::answers::OpenAnswer;
+use crate::answers::ReadAnswer;
+use crate::answers::SweepAnswer;
+use crate::bounds::frame_fits;
+use crate::bounds::is_open;
+use crate::opening::opened;
+use chain::figures::Working;
+use chain::judge::Judgement;
+use chain::judge::passes;
+use chain::judge::test;
+use chain::residues::residues;
+use chain::sweep::sweeps;
+use layout::checks::Check;
+use layout::checks::record::check_record;
+use layout::places::record_length;
+use records::mean_of;
+use records::write_record;
+
+// 21, then 1, 2, 4 and 11. The rows of the matrix are tested with the mean that is held where the record is refused, and with the
+// record's where it is not: one pass either way.
+pub fn judge_lent<'a>(
+    last: usize,
+    closeness: u64,
+    total: u64,
+    own: &'a [u64; 31],
+    matrix: &'a [i64; 961],
+    right_hand: &'a [i64; 31],
+    mean: &'a [i64; 31],
+    lent: &'a [u8],
+) -> JudgeAnswer
+    ensures { λ r. ⌜ Judges (sessionAt last closeness total (now (own .entry)) (now (matrix .entry)) (now («right_hand» .entry)) (now (mean .entry))) (now (lent .entry)) r ⌝ }
+{
+    if !frame_fits(last, closeness, total, own, matrix, right_hand, mean) {
+        return JudgeAnswer::Refused(21, 0);
+    }
+    let year = last as u8;
+    let checked = check_record(year, lent);
+    if let Check::Refuses(number, place) = checked {
+        let tested = residues(last, matrix, right_hand, mean);
+        if !tested.fit {
+            return JudgeAnswer::Refused(21, 0);
+        }
+        return JudgeAnswer::Refused(number, place);
+    }
+    let proposed = mean_of(year, lent);
+    let tested = residues(last, matrix, right_hand, &proposed);
+    if !tested.fit {
+        return JudgeAnswer::Refused(21, 0);
+    }
+    let judgement = test(last, closeness, own, &tested.residues);
+    match judgement {
+        Judgement::Passed => JudgeAnswer::Passed,
+        Judgement::Fails(k) => JudgeAnswer::Fails(k),
+    }
+}
+
+// 21, 12, settled, 23.
+pub fn sweep_lent<'a>(
+    last: usize,
+    closeness: u64,
+    own: &'a [u64; 31],
+    matrix: &'a [i64; 961],
+    right_hand: &'a [i64; 31],
+    mean: &'a mut [i64; 31],
+    total: &'a mut u64,
+    n: u64,
+) -> SweepAnswer
+    ensures { λ r. ⌜ Sweeps (sessionAt last closeness (now (total .entry)) (now (own .entry)) (now (matrix .entry)) (now («right_hand» .entry)) (now (mean .entry))) n
+        (record { answer = r; session = sessionAt last closeness (now (total .exit)) (now (own .entry)) (now (matrix .entry)) (now («right_hand» .entry)) (now (mean .exit)) }) ⌝ }
+{
+    let before = *total;
+    let held = *mean;
+    if !frame_fits(last, closeness, before, own, matrix, right_hand, &held) {
+        return SweepAnswer::Refused(21, 0);
+    }
+    let tested = residues(last, matrix, right_hand, &held);
+    if !tested.fit {
+        return SweepAnswer::Refused(21, 0);
+    }
+    if n < 1 {
+        return SweepAnswer::Refused(12, 0);
+    }
+    if 4096 < n {
+        return SweepAnswer::Refused(12, 0);
+    }
+    let found = tested.residues;
+    let working = Working {
+        mean: held,
+        residues: found,
+    };
+    sweep_on(
+        last,
+        closeness,
+        own,
+        matrix,
+        right_hand,
+        mean,
+        total,
+        working,
+        n,
+    )
+}
+
+// Of a session with its working mean: settled, 23, and then the sweeps.
+fn sweep_on<'a>(
+    last: usize,
+    closeness: u64,
+    own: &'a [u64; 31],
+    matrix: &'a [i64; 961],
+    right_hand: &'a [i64; 31],
+    mean: &'a mut [i64; 31],
+    total: &'a mut u64,
+    working: Working,
+    n: u64,
+) -> SweepAnswer
+    requires { ⌜ OpenSweep (sessionAt last closeness (now total) (now own) (now matrix) (now «right_hand») (now mean)) working n ⌝ }
+    ensures { λ r. ⌜ Sweeps (sessionAt last closeness (now (total .entry)) (now (own .entry)) (now (matrix .entry)) (now («right_hand» .entry)) (now (mean .entry))) n
+        (record { answer = r; session = sessionAt last closeness (now (total .exit)) (now (own .entry)) (now (matrix .entry)) (now («right_hand» .entry)) (now (mean .exit)) }) ⌝ }
+{
+    let before = *total;
+    if passes(last, closeness, own, &working.residues) {
+        return SweepAnswer::Settled(before);
+    }
+    if 4096 <= before {
+        return SweepAnswer::Refused(23, 0);
+    }
+    let swept = sweeps(last, closeness, own, matrix, right_hand, working, before, n);
+    let after = swept.working;
+    let settled = after.mean;
+    *mean = settled;
+    *total = swept.total;
+    if swept.passes {
+        return SweepAnswer::Settled(swept.total);
+    }
+    SweepAnswer::Going(swept.total)
+}
+
+// 21, 24, 13. The record at the front of the buffer; the bytes behind it stay.
+pub fn read_lent<'a>(
+    last: usize,
+    closeness: u64,
+    total: u64,
+    own: &'a [u64; 31],
+    matrix: &'a [i64; 961],
+    right_hand: &'a [i64; 31],
+    mean: &'a [i64; 31],
+    buffer: &'a mut [u8],
+) -> ReadAnswer
+    ensures { λ r. ⌜ Reads (sessionAt last closeness total (now (own .entry)) (now (matrix .entry)) (now («right_hand» .entry)) (now (mean .entry))) (now (buffer .entry)) r (now (buffer .exit)) ⌝ }
+{
+    if !frame_fits(last, closeness, total, own, matrix, right_hand, mean) {
+        return ReadAnswer::Refused(21, 0);
+    }
+    let tested = residues(last, matrix, right_hand, mean);
+    if !tested.fit {
+        return ReadAnswer::Refused(21, 0);
+    }
+    if !passes(last, closeness, own, &tested.residues) {
+        return ReadAnswer::Refused(24, 0);
+    }
+    let year = last as u8;
+    if buffer.len() < record_length(year) {
+        return ReadAnswer::Refused(13, 0);
+    }
+    write_record(buffer, year, mean);
+    ReadAnswer::Written
+}
+
+// 22, then 1 to 10, then 16. `held` has J, the closeness and the sweeps run since open.
+pub fn open_lent<'a>(
+    held: &'a mut [u64; 3],
+    own: &'a mut [u64; 31],
+    matrix: &'a mut [i64; 961],
+    right_hand: &'a mut [i64; 31],
+    mean: &'a mut [i64; 31],
+    file: &'a [u8],
+) -> OpenAnswer
+    ensures { λ r. ⌜ Opens (sessionHeld (now (held .entry)) (now (own .entry)) (now (matrix .entry)) (now («right_hand» .entry)) (now (mean .entry))) (now (file .entry))
+        (record { answer = r; session = sessionHeld (now (held .exit)) (now (own .exit)) (now (matrix .exit)) (now («right_hand» .exit)) (now (mean .exit)) }) ⌝ }
+{
+    if is_open(
+        held[0] as usize,
+        held[1],
+        held[2],
+        own,
+        matrix,
+        right_hand,
+        mean,
+    ) {
+        return OpenAnswer::Refused(22, 0);
+    }
+    let opening = opened(file);
+    let answer = opening.answer;
+    if let OpenAnswer::Refused(number, place) = answer {
+        return OpenAnswer::Refused(number, place);
+    }
+    let session = opening.session;
+    let figures = session.figures;
+    let weights = figures.own;
+    let entries = figures.matrix;
+    let targets = figures.right_hand;
+    let priors = session.mean;
+    let numbers = [figures.last as u64, figures.closeness, session.total];
+    *held = numbers;
+    *own = weights;
+    *matrix = entries;
+    *right_hand = targets;
+    *mean = priors;
+    OpenAnswer::Opened
+}
