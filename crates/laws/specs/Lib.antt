@@ -19,6 +19,7 @@
 --   StepLaws          one step of a sweep: one part changes, stays inside, residues follow
 --   SweepLaws         no step and no sweep raises the loss; a swept mean stays inside the limits
 --   MachineLaws       the machine runs on a file's figures; every state that calls reach is empty or an accepted file, a mean inside, a total ≤ 4,096
+--   Numbers           a refusal has a number of at least 1
 pub mod LogarithmBound
 pub mod LogarithmOrder
 pub mod WeightLaws
@@ -39,3 +40,4 @@ pub mod FileLimits
 pub mod StepLaws
 pub mod SweepLaws
 pub mod MachineLaws
+pub mod Numbers

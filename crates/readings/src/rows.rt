@@ -9,6 +9,7 @@ ghost use Rattle.definitions.specs.Refusals.{rowCheck};
 ghost use Rattle.definitions.specs.Machine.{rowPart};
 ghost use Rattle.layout.specs.Checks.{told, Whole};
 ghost use Rattle.layout.specs.CheckLaws.{Shown};
+ghost use Rattle.readings.specs.Rows.{Places};
 use crate::amount_of;
 use layout::checks::Check;
 use layout::checks::file::check_file;
@@ -105,4 +106,23 @@ pub fn row(s: &[u8], channel: usize, year: usize) -> &[u8]
         return &s[..0];
     };
     shown_row(s, channel, year)
+}
+
+// Where a row stands in the file.
+pub struct RowPlace {
+    pub start: usize,
+    pub length: usize,
+}
+
+// Of a row that is not refused.
+pub fn row_place(s: &[u8], channel: usize, year: usize) -> RowPlace
+    requires { ⌜ Shown (now s) channel year ⌝ }
+    ensures { λ r. ⌜ Places (now (s .entry)) channel year r ⌝ }
+{
+    let last = last_year(s);
+    let cells = channel * cells_of(last) + row_start(last, year);
+    RowPlace {
+        start: amounts_at(last) + 8 * cells,
+        length: 8 * (last as usize + 1 - year),
+    }
 }

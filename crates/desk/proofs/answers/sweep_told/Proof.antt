@@ -1,0 +1,35 @@
+-- `answers::sweep_told` meets its contract, case by case. Assumes nothing.
+use mathlib.Core.Path.{sym, ap}
+use borrow.Author.Needs.{needs}
+use Rattle.desk.specs.Answers.{sweepTold}
+use Rattle.desk.proofs.answers.sweep_told.Statement.{statement}
+use Rattle.desk.proofs.answers.sweep_told.Tie as tie
+
+enum-known-a : tie.Need-enum-known-a
+enum-known-a c = search needs
+
+enum-known-a-2 : tie.Need-enum-known-a-2
+enum-known-a-2 c = search needs
+
+enum-known-a-3 : tie.Need-enum-known-a-3
+enum-known-a-3 c = search needs
+
+returns : tie.Need-returns
+returns c = sym (ap sweepTold (c .before .a .given .1))
+
+returns-2 : tie.Need-returns-2
+returns-2 c = sym (ap sweepTold (c .before .a2 .given .1))
+
+returns-3 : tie.Need-returns-3
+returns-3 c = sym (ap sweepTold (c .before .a3 .given .1))
+
+pub sweep-told-spec : {M : Type 1} → statement M
+sweep-told-spec =
+    tie.close
+    (tie.spec
+    enum-known-a
+    enum-known-a-2
+    enum-known-a-3
+    returns
+    returns-2
+    returns-3)

@@ -1,0 +1,152 @@
+// What C calls. `held` has J (0 while nothing is open), the closeness and the sweeps run since open.
+ghost use Rattle.session.specs.State.{sessionHeld};
+ghost use Rattle.session.specs.Calls.{Opens, Judges, Sweeps, Reads};
+ghost use Rattle.desk.specs.Answers.{openAnswer, judgeAnswer, sweepAnswer, readAnswer, ShowsRow, Closes};
+use crate::answers::Judged;
+use crate::answers::Refusal;
+use crate::answers::RowShown;
+use crate::answers::Swept;
+use crate::answers::judge_told;
+use crate::answers::open_told;
+use crate::answers::read_told;
+use crate::answers::sweep_told;
+use layout::checks::Check;
+use readings::rows::row_place;
+use readings::rows::row_told;
+use session::lent::judge_lent;
+use session::lent::open_lent;
+use session::lent::read_lent;
+use session::lent::sweep_lent;
+
+// 22, then 1 to 10, then 16.
+#[no_mangle]
+pub extern "C" fn desk_open_lent<'a>(
+    held: &'a mut [u64; 3],
+    own: &'a mut [u64; 31],
+    matrix: &'a mut [i64; 961],
+    right_hand: &'a mut [i64; 31],
+    mean: &'a mut [i64; 31],
+    file: &'a [u8],
+) -> Refusal
+    ensures { λ r. ⌜ Opens (sessionHeld (now (held .entry)) (now (own .entry)) (now (matrix .entry)) (now («right_hand» .entry)) (now (mean .entry))) (now (file .entry))
+        (record { answer = openAnswer r; session = sessionHeld (now (held .exit)) (now (own .exit)) (now (matrix .exit)) (now («right_hand» .exit)) (now (mean .exit)) }) ⌝ }
+{
+    open_told(open_lent(held, own, matrix, right_hand, mean, file))
+}
+
+// 21, then 1, 2, 4 and 11.
+#[no_mangle]
+pub extern "C" fn desk_judge_lent<'a>(
+    held: &'a [u64; 3],
+    own: &'a [u64; 31],
+    matrix: &'a [i64; 961],
+    right_hand: &'a [i64; 31],
+    mean: &'a [i64; 31],
+    lent: &'a [u8],
+) -> Judged
+    ensures { λ r. ⌜ Judges (sessionHeld (now (held .entry)) (now (own .entry)) (now (matrix .entry)) (now («right_hand» .entry)) (now (mean .entry))) (now (lent .entry)) (judgeAnswer r) ⌝ }
+{
+    judge_told(judge_lent(
+        held[0] as usize,
+        held[1],
+        held[2],
+        own,
+        matrix,
+        right_hand,
+        mean,
+        lent,
+    ))
+}
+
+// 21, 12, settled, 23.
+#[no_mangle]
+pub extern "C" fn desk_sweep_lent<'a>(
+    held: &'a mut [u64; 3],
+    own: &'a [u64; 31],
+    matrix: &'a [i64; 961],
+    right_hand: &'a [i64; 31],
+    mean: &'a mut [i64; 31],
+    n: u64,
+) -> Swept
+    ensures { λ r. ⌜ Sweeps (sessionHeld (now (held .entry)) (now (own .entry)) (now (matrix .entry)) (now («right_hand» .entry)) (now (mean .entry))) n
+        (record { answer = sweepAnswer r; session = sessionHeld (now (held .exit)) (now (own .entry)) (now (matrix .entry)) (now («right_hand» .entry)) (now (mean .exit)) }) ⌝ }
+{
+    let last = held[0];
+    let closeness = held[1];
+    let mut total = held[2];
+    let answer = sweep_lent(
+        last as usize,
+        closeness,
+        own,
+        matrix,
+        right_hand,
+        mean,
+        &mut total,
+        n,
+    );
+    let numbers = [last, closeness, total];
+    *held = numbers;
+    sweep_told(answer)
+}
+
+// 21, 24, 13.
+#[no_mangle]
+pub extern "C" fn desk_read_lent<'a>(
+    held: &'a [u64; 3],
+    own: &'a [u64; 31],
+    matrix: &'a [i64; 961],
+    right_hand: &'a [i64; 31],
+    mean: &'a [i64; 31],
+    buffer: &'a mut [u8],
+) -> Refusal
+    ensures { λ r. ⌜ Reads (sessionHeld (now (held .entry)) (now (own .entry)) (now (matrix .entry)) (now («right_hand» .entry)) (now (mean .entry))) (now (buffer .entry)) (readAnswer r) (now (buffer .exit)) ⌝ }
+{
+    read_told(read_lent(
+        held[0] as usize,
+        held[1],
+        held[2],
+        own,
+        matrix,
+        right_hand,
+        mean,
+        buffer,
+    ))
+}
+
+// Never refuses: with J = 0 nothing is open, whatever the arrays hold.
+#[no_mangle]
+pub extern "C" fn desk_close_lent(held: &mut [u64; 3])
+    ensures { λ _. ⌜ Closes (now (held .exit)) ⌝ }
+{
+    let nothing = [0u64, 0u64, 0u64];
+    *held = nothing;
+}
+
+// 1 to 10, 14, 15. Needs no session.
+#[no_mangle]
+pub extern "C" fn desk_row(file: &[u8], channel: u64, year: u64) -> RowShown
+    ensures { λ r. ⌜ ShowsRow (now (file .entry)) channel year r ⌝ }
+{
+    let told = row_told(file, channel as usize, year as usize);
+    if let Check::Refuses(number, place) = told {
+        let refusal = Refusal {
+            number: number,
+            place: place as u64,
+        };
+        return RowShown {
+            refusal: refusal,
+            start: 0,
+            length: 0,
+        };
+    }
+    let found = row_place(file, channel as usize, year as usize);
+    let done = Refusal {
+        number: 0,
+        place: 0,
+    };
+    RowShown {
+        refusal: done,
+        start: found.start as u64,
+        length: found.length as u64,
+    }
+}

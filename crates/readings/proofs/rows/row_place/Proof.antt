@@ -1,0 +1,111 @@
+-- `readings::rows::row_place` meets its contract: the row is found by its first cell, and ends inside its block. Assumes nothing.
+use denote.Ref.{now}
+use native.Mathlib.Omega.{arith}
+use native.Mathlib.Nat.{le-trans, mul-le-mul-right}
+use mathlib.Core.Path.{_≡_, ap, ap₂, _∙_}
+use Prim.Native.Nat.{ℕ, _+_, _*_, _-_, _≤_}
+use lib.ListN.{length, take, drop}
+use Rattle.definitions.specs.Layout.{lastYear, cells, rowStart, amountAt}
+use Rattle.layout.specs.Places.{row-inside, amounts-end}
+use borrow.Author.Needs.{needs}
+use Rattle.readings.proofs.rows.row_place.Statement.{statement}
+use Rattle.readings.proofs.rows.row_place.Tie as tie
+
+abbrev J : tie.After-cells-of → ℕ
+J c = lastYear (now (c .before .before .before .args .s))
+
+block : (c : tie.After-cells-of) → c .cells-of .result ≡ cells (J c)
+block c = c .cells-of .ensures ∙ ap cells (c .before .last-year .ensures)
+
+start : (c : tie.After-row-start) → c .row-start .result ≡ rowStart (J (c .before)) (c .before .before .before .before .args .year)
+start c = c .row-start .ensures ∙ ap (λ n. rowStart n (c .before .before .before .before .args .year)) (c .before .before .last-year .ensures)
+
+-- a channel is 0 or 1, so what is before the block is no more than a block
+before-block : (channel n : ℕ) → channel ≤ 1 → channel * n ≤ n
+before-block channel n few = le-trans (mul-le-mul-right n few) (omega arith)
+
+inside : (c : tie.After-row-start) → let d = c .before .before .before .before in
+    amountAt (J (c .before)) (d .args .channel * c .before .cells-of .result + c .row-start .result) + 8 * (c .before .before .last-year .result + 1 - d .args .year) ≤ length (now (d .args .s))
+inside c =
+    let d = c .before .before .before .before in
+    omega (
+      arith,
+      block (c .before),
+      start c,
+      c .before .before .last-year .ensures,
+      before-block (d .args .channel) (c .before .cells-of .result) (d .pre .channel),
+      row-inside (J (c .before)) (d .args .year) (d .pre .year),
+      amounts-end (J (c .before)),
+      d .pre .file .whole,
+    )
+
+last-year-requires : tie.Need-last-year-requires
+last-year-requires c κs = search needs
+
+cells-of-requires : tie.Need-cells-of-requires
+cells-of-requires c κs = search needs
+
+mul-cells : tie.Need-mul-cells
+mul-cells c = let d = c .before .before .before in omega (arith, block c, before-block (d .args .channel) (c .cells-of .result) (d .pre .channel), amounts-end (J c), d .pre .file .whole)
+
+row-start-requires : tie.Need-row-start-requires
+row-start-requires c κs = search needs
+
+add-cells : tie.Need-add-cells
+add-cells c = omega (arith, inside c)
+
+amounts-at-requires : tie.Need-amounts-at-requires
+amounts-at-requires c κs = search needs
+
+mul-t8 : tie.Need-mul-t8
+mul-t8 c = omega (arith, inside (c .before))
+
+add-t7 : tie.Need-add-t7
+add-t7 c = omega (arith, inside (c .before), c .amounts-at .ensures, c .before .before .before .last-year .ensures)
+
+cast-t9 : tie.Need-cast-t9
+cast-t9 c = search needs
+
+add-t10 : tie.Need-add-t10
+add-t10 c = search needs
+
+sub-t11 : tie.Need-sub-t11
+sub-t11 c = search needs
+
+mul-t12 : tie.Need-mul-t12
+mul-t12 c = search needs
+
+returns : tie.Need-returns
+returns c =
+    let r = c .before in
+    let k = r .before in
+    let d = k .before .before .before in
+    let s = now (d .args .s) in
+    let cell : d .args .channel * k .cells-of .result + r .row-start .result ≡ d .args .channel * cells (J k) + rowStart (J k) (d .args .year)
+    = ap₂ (λ n m. d .args .channel * n + m) (block k) (start r) in
+    let first : c .amounts-at .result + 8 * (d .args .channel * k .cells-of .result + r .row-start .result) ≡ amountAt (J k) (d .args .channel * cells (J k) + rowStart (J k) (d .args .year))
+    = omega (arith, cell, c .amounts-at .ensures, k .before .last-year .ensures) in
+    let long : 8 * (k .before .last-year .result + 1 - d .args .year) ≡ 8 * (J k + 1 - d .args .year)
+    = ap (λ n. 8 * (n + 1 - d .args .year)) (k .before .last-year .ensures) in
+    record {
+      shows = ap₂ (λ n a. take n (drop a s)) long first;
+      inside = omega (arith, inside r, c .amounts-at .ensures, k .before .last-year .ensures);
+    }
+
+pub row-place-spec : {M : Type 1} → statement M
+row-place-spec =
+    tie.close
+    (tie.spec
+    last-year-requires
+    cells-of-requires
+    mul-cells
+    row-start-requires
+    add-cells
+    amounts-at-requires
+    mul-t8
+    add-t7
+    cast-t9
+    add-t10
+    sub-t11
+    mul-t12
+    returns)
