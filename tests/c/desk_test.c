@@ -1,0 +1,366 @@
+/* The C interface, call by call: answers, numbers and places of refusals, what a refusal leaves unchanged, null with length 0, and
+ * sessions of arbitrary bytes. Expected numbers are document 01's; those of the sample and of the file that never settles are
+ * the reference's. Arguments: the sample's file and its listing. */
+#include "support.h"
+
+static desk_session opened(const uint8_t *file, size_t length) {
+    desk_session s = DESK_EMPTY;
+    EXPECT_DONE(desk_open(&s, file, length));
+    return s;
+}
+
+static desk_session opened_f(uint64_t closeness) {
+    uint8_t file[F_LENGTH];
+    file_f(file, closeness);
+    return opened(file, sizeof file);
+}
+
+static desk_judgement judged(const desk_session *s, int64_t phi_0, int64_t phi_1, int64_t psi_0) {
+    const int64_t parts[3] = {phi_0, phi_1, psi_0};
+    uint8_t record[F_RECORD];
+    const desk_session before = *s;
+    const desk_judgement answer = desk_judge(s, record, record_of(record, parts, 3));
+    EXPECT(memcmp(&before, s, sizeof before) == 0);
+    return answer;
+}
+
+static void expect_passed(desk_judgement answer) {
+    EXPECT_DONE(answer.refusal);
+    EXPECT(answer.passed == 1);
+}
+
+static void expect_fails(desk_judgement answer, uint64_t part) {
+    EXPECT_DONE(answer.refusal);
+    EXPECT(answer.passed == 0 && answer.part == part);
+}
+
+static void test_figures_of_f(void) {
+    desk_session s = opened_f(1);
+    expect_passed(judged(&s, 10 * T, T, -T));
+    expect_passed(judged(&s, 10 * T + 1, T, -T));
+    expect_fails(judged(&s, 10 * T + 2, T, -T), 0);
+    expect_fails(judged(&s, 10 * T, T + 1, -T), 1);
+    const desk_sweeping swept = desk_sweep(&s, DESK_MOST_SWEEPS);
+    EXPECT_DONE(swept.refusal);
+    EXPECT(swept.settled == 1 && swept.total == 0);
+    desk_close(&s);
+    const desk_session wider = opened_f(2);
+    expect_passed(judged(&wider, 10 * T, T + 1, -T));
+}
+
+/* One field of F changed, and the refusal that this must give. */
+static const struct { size_t place, width; uint64_t value, number, refused_at; } SPOILED[] = {
+    {0, 4, 117, 1, 0},
+    {4, 1, 0, 2, 4},
+    {4, 1, 2, 2, 4},
+    {5, 1, 0, 3, 5},
+    {5, 1, 16, 3, 5},
+    {5, 1, 2, 4, 0},
+    {6, 4, 0, 5, 6},
+    {6, 4, 65537, 5, 6},
+    {10, 8, (1 << 18) - 1, 6, 10},
+    {26, 8, (UINT64_C(1) << 40) + 1, 6, 26},
+    {38, 8, (1 << 18) - 1, 7, 38},
+    {62, 8, (UINT64_C(1) << 46) + 1, 7, 62},
+    {34, 4, (uint64_t)(-MOST_PART - 1), 8, 34},
+    {58, 4, (uint64_t)(MOST_PART + 1), 8, 58},
+    {70, 8, (UINT64_C(1) << 40) + 1, 9, 70},
+    {86, 8, 0, 9, 86},
+    {110, 8, 0, 9, 110},
+    {102, 8, 1 << 12, 10, 78},
+};
+
+static void expect_file_refused(const uint8_t *file, size_t length, uint64_t number, uint64_t place) {
+    desk_session s = DESK_EMPTY;
+    EXPECT_REFUSED(&s, desk_open(&s, file, length), number, place);
+    const desk_shown row = desk_row(file, length, 2, 99); /* 1 to 10 come before 14 and 15 */
+    expect_refusal(__LINE__, "desk_row", row.refusal, number, place);
+    EXPECT(row.length == 0);
+}
+
+static void test_files_refused(void) {
+    uint8_t file[F_LENGTH + 8] = {0};
+    for (size_t k = 0; k < sizeof SPOILED / sizeof *SPOILED; k++) {
+        file_f(file, 1);
+        put(file, SPOILED[k].place, SPOILED[k].width, SPOILED[k].value);
+        expect_file_refused(file, F_LENGTH, SPOILED[k].number, SPOILED[k].refused_at);
+    }
+    file_f(file, 1);
+    for (size_t length = 0; length < F_LENGTH; length++) expect_file_refused(file, length, 1, 0);
+    expect_file_refused(NULL, 0, 1, 0);
+    put(file, 0, 4, F_LENGTH + 8);
+    expect_file_refused(file, F_LENGTH + 8, 4, 0);
+    file_f(file, 1); /* 7 before 8, although its place is behind */
+    put(file, 34, 4, (uint64_t)(MOST_PART + 1));
+    put(file, 62, 8, 0);
+    expect_file_refused(file, F_LENGTH, 7, 62);
+}
+
+static void test_limits_are_taken(void) {
+    static const struct { size_t place, width; uint64_t low, high; } LIMITS[] = {
+        {6, 4, 1, 65536},
+        {10, 8, 1 << 18, UINT64_C(1) << 40},
+        {34, 4, (uint64_t)-MOST_PART, (uint64_t)MOST_PART},
+        {38, 8, 1 << 18, UINT64_C(1) << 46},
+        {86, 8, 1, UINT64_C(1) << 40},
+    };
+    for (size_t k = 0; k < sizeof LIMITS / sizeof *LIMITS; k++) {
+        for (int high = 0; high <= 1; high++) {
+            uint8_t file[F_LENGTH];
+            file_f(file, 1);
+            put(file, LIMITS[k].place, LIMITS[k].width, high ? LIMITS[k].high : LIMITS[k].low);
+            desk_session s = opened(file, sizeof file);
+            EXPECT_REFUSED(&s, desk_open(&s, file, sizeof file), 22, 0);
+        }
+    }
+}
+
+static void test_nothing_open(void) {
+    desk_session s = DESK_EMPTY;
+    for (int closed = 0; closed <= 1; closed++) { /* a new session, then one that was closed */
+        uint8_t buffer[F_RECORD] = {0}, untouched[F_RECORD] = {0};
+        const int64_t parts[3] = {0, 0, 0};
+        uint8_t record[F_RECORD];
+        EXPECT_REFUSED(&s, desk_judge(&s, record, record_of(record, parts, 3)).refusal, 21, 0);
+        EXPECT_REFUSED(&s, desk_judge(&s, NULL, 0).refusal, 21, 0);
+        EXPECT_REFUSED(&s, desk_sweep(&s, 1).refusal, 21, 0);
+        EXPECT_REFUSED(&s, desk_sweep(&s, 0).refusal, 21, 0);
+        EXPECT_REFUSED(&s, desk_read(&s, buffer, sizeof buffer), 21, 0);
+        EXPECT_REFUSED(&s, desk_read(&s, NULL, 0), 21, 0);
+        EXPECT(memcmp(buffer, untouched, sizeof buffer) == 0);
+        s = opened_f(1);
+        desk_close(&s);
+    }
+}
+
+static void test_open_twice(void) {
+    uint8_t file[F_LENGTH];
+    file_f(file, 1);
+    desk_session s = opened(file, sizeof file);
+    EXPECT_REFUSED(&s, desk_open(&s, file, sizeof file), 22, 0);
+    EXPECT_REFUSED(&s, desk_open(&s, NULL, 0), 22, 0);
+    desk_close(&s);
+    desk_close(&s);
+    EXPECT_DONE(desk_open(&s, file, sizeof file));
+}
+
+static void test_judge_refused(void) {
+    const desk_session s = opened_f(1);
+    const int64_t parts[7] = {10 * T, T, -T};
+    uint8_t record[33];
+    EXPECT_REFUSED(&s, desk_judge(&s, NULL, 0).refusal, 1, 0);
+    const size_t length = record_of(record, parts, 3);
+    for (size_t cut = 0; cut < length; cut++) EXPECT_REFUSED(&s, desk_judge(&s, record, cut).refusal, 1, 0);
+    record[4] = 0;
+    EXPECT_REFUSED(&s, desk_judge(&s, record, length).refusal, 2, 4);
+    for (size_t count = 0; count <= 7; count++) {
+        if (count != 3) EXPECT_REFUSED(&s, desk_judge(&s, record, record_of(record, parts, count)).refusal, 4, 0);
+    }
+    for (size_t part = 0; part < 3; part++) {
+        record_of(record, parts, 3);
+        for (int sign = -1; sign <= 1; sign += 2) {
+            put(record, 5 + 4 * part, 4, (uint64_t)(sign * (MOST_PART + 1)));
+            EXPECT_REFUSED(&s, desk_judge(&s, record, length).refusal, 11, 5 + 4 * part);
+            EXPECT(desk_judge(&s, record, length).passed == 0);
+        }
+    }
+    expect_fails(judged(&s, MOST_PART, -MOST_PART, -MOST_PART), 0);
+}
+
+static void test_numbers_of_sweeps_refused(void) {
+    static const uint64_t OUTSIDE[] = {0, 4097, UINT64_C(1) << 32, (UINT64_C(1) << 32) + 1, UINT64_MAX};
+    desk_session s = opened_f(1);
+    for (size_t k = 0; k < sizeof OUTSIDE / sizeof *OUTSIDE; k++) {
+        EXPECT_REFUSED(&s, desk_sweep(&s, OUTSIDE[k]).refusal, 12, 0);
+        EXPECT(desk_sweep(&s, OUTSIDE[k]).settled == 0);
+    }
+}
+
+static void test_spent(void) {
+    uint8_t file[F_LENGTH], buffer[64], untouched[64];
+    file_that_never_settles(file);
+    desk_session s = opened(file, sizeof file);
+    uint64_t total = 0;
+    for (uint64_t n = 1; total < DESK_MOST_SWEEPS; n *= 2) {
+        const desk_sweeping swept = desk_sweep(&s, n);
+        EXPECT_DONE(swept.refusal);
+        total = total + n < DESK_MOST_SWEEPS ? total + n : DESK_MOST_SWEEPS;
+        EXPECT(swept.settled == 0 && swept.total == total);
+    }
+    EXPECT_REFUSED(&s, desk_sweep(&s, 1).refusal, 23, 0);
+    EXPECT_REFUSED(&s, desk_sweep(&s, 0).refusal, 12, 0);
+    memset(buffer, 0xA5, sizeof buffer);
+    memcpy(untouched, buffer, sizeof buffer);
+    EXPECT_REFUSED(&s, desk_read(&s, buffer, sizeof buffer), 24, 0);
+    EXPECT_REFUSED(&s, desk_read(&s, NULL, 0), 24, 0);
+    EXPECT(memcmp(buffer, untouched, sizeof buffer) == 0);
+}
+
+static void test_read(void) {
+    const desk_session s = opened_f(1);
+    const int64_t parts[3] = {10 * T, T, -T};
+    for (size_t size = 0; size <= 40; size++) {
+        uint8_t buffer[40], expected[40];
+        memset(buffer, 0xA5, sizeof buffer);
+        memset(expected, 0xA5, sizeof expected);
+        if (size >= F_RECORD) {
+            record_of(expected, parts, 3);
+            EXPECT_DONE(desk_read(&s, buffer, size));
+        } else {
+            EXPECT_REFUSED(&s, desk_read(&s, buffer, size), 13, 0);
+        }
+        EXPECT(memcmp(buffer, expected, sizeof buffer) == 0);
+    }
+    EXPECT_REFUSED(&s, desk_read(&s, NULL, 0), 13, 0);
+}
+
+static void expect_row(const uint8_t *file, size_t length, uint64_t channel, uint64_t year, uint64_t start, uint64_t bytes) {
+    const desk_shown row = desk_row(file, length, channel, year);
+    EXPECT_DONE(row.refusal);
+    EXPECT(row.start == start && row.length == bytes);
+}
+
+static void test_rows_of_f(void) {
+    static const uint64_t FAR[] = {2, 256, UINT64_C(1) << 32, UINT64_MAX}; /* their low bytes are inside */
+    uint8_t file[F_LENGTH];
+    file_f(file, 1);
+    expect_row(file, sizeof file, DESK_PAID, 0, 70, 16);
+    expect_row(file, sizeof file, DESK_PAID, 1, 86, 8);
+    expect_row(file, sizeof file, DESK_INCURRED, 0, 94, 16);
+    expect_row(file, sizeof file, DESK_INCURRED, 1, 110, 8);
+    for (size_t k = 0; k < sizeof FAR / sizeof *FAR; k++) {
+        const desk_shown channel = desk_row(file, sizeof file, FAR[k], 2), year = desk_row(file, sizeof file, DESK_INCURRED, FAR[k]);
+        expect_refusal(__LINE__, "desk_row", channel.refusal, 14, 0);
+        expect_refusal(__LINE__, "desk_row", year.refusal, 15, 0);
+        EXPECT(channel.length == 0 && year.length == 0);
+    }
+}
+
+static size_t contents(const char *name, uint8_t *bytes, size_t room) {
+    FILE *file = fopen(name, "rb");
+    EXPECT(file != NULL);
+    const size_t length = fread(bytes, 1, room, file);
+    EXPECT(fclose(file) == 0 && length < room);
+    return length;
+}
+
+/* The listing that the reference made of the sample: J, sweeps, and the mean part by part. */
+static size_t parts_of_listing(const char *name, uint64_t *last, uint64_t *sweeps, int64_t parts[31]) {
+    FILE *listing = fopen(name, "r");
+    EXPECT(listing != NULL);
+    EXPECT(fscanf(listing, "J %" SCNu64 " sweeps %" SCNu64, last, sweeps) == 2);
+    size_t count = 0;
+    while (count < 31 && fscanf(listing, " %*s %*u %" SCNd64, &parts[count]) == 1) count++;
+    EXPECT(fclose(listing) == 0 && count == 2 * *last + 1);
+    return count;
+}
+
+static void test_sample(const char *sample, const char *listing) {
+    static uint8_t file[LONGEST_FILE + 1];
+    uint64_t last, sweeps;
+    int64_t parts[31];
+    uint8_t record[DESK_LONGEST_RECORD], buffer[DESK_LONGEST_RECORD];
+    const size_t length = contents(sample, file, sizeof file);
+    const size_t record_length = record_of(record, parts, parts_of_listing(listing, &last, &sweeps, parts));
+    desk_session s = opened(file, length);
+    for (uint64_t total = 1; total <= sweeps; total++) {
+        EXPECT_REFUSED(&s, desk_read(&s, buffer, sizeof buffer), 24, 0);
+        const desk_sweeping swept = desk_sweep(&s, 1);
+        EXPECT_DONE(swept.refusal);
+        EXPECT(swept.total == total && swept.settled == (total == sweeps));
+    }
+    expect_passed(desk_judge(&s, record, record_length));
+    EXPECT_DONE(desk_read(&s, buffer, sizeof buffer));
+    EXPECT(memcmp(buffer, record, record_length) == 0);
+    uint64_t start = 10 + 20 * (2 * last + 1); /* the paid block, and behind it the incurred one */
+    for (uint64_t channel = DESK_PAID; channel <= DESK_INCURRED; channel++) {
+        for (uint64_t year = 0; year <= last; start += 8 * (last - year + 1), year++) {
+            expect_row(file, length, channel, year, start, 8 * (last - year + 1));
+        }
+    }
+    EXPECT(start == length);
+}
+
+static uint64_t drawn(void) { /* xorshift: the same numbers in every run */
+    static uint64_t state = 88172645463325252;
+    state ^= state << 13;
+    state ^= state >> 7;
+    return state ^= state << 17;
+}
+
+static int is_one_of(uint64_t number, const uint64_t *numbers) { /* which a 0 ends: the call may also do its job */
+    while (*numbers != 0 && *numbers != number) numbers++;
+    return *numbers == number;
+}
+
+/* Every call on a session that no call has made: it answers, and changes nothing where it is refused. */
+static void expect_answers(desk_session *s) {
+    static const uint64_t JUDGE[] = {21, 4, 0}, SWEEP[] = {21, 23, 0}, READ[] = {21, 24, 0}, OPEN[] = {22, 0};
+    uint8_t file[F_LENGTH], record[F_RECORD], buffer[DESK_LONGEST_RECORD];
+    const int64_t parts[3] = {MOST_PART, -MOST_PART, 0};
+    file_f(file, 1);
+    desk_session before = *s;
+    EXPECT(is_one_of(desk_judge(s, record, record_of(record, parts, 3)).refusal.number, JUDGE));
+    EXPECT(is_one_of(desk_read(s, buffer, sizeof buffer).number, READ));
+    EXPECT(memcmp(&before, s, sizeof before) == 0);
+    const desk_sweeping swept = desk_sweep(s, drawn() % DESK_MOST_SWEEPS + 1);
+    EXPECT(is_one_of(swept.refusal.number, SWEEP));
+    EXPECT(swept.refusal.number == 0 || memcmp(&before, s, sizeof before) == 0);
+    before = *s;
+    const desk_refusal refusal = desk_open(s, file, sizeof file);
+    EXPECT(is_one_of(refusal.number, OPEN));
+    EXPECT(refusal.number == 0 || memcmp(&before, s, sizeof before) == 0);
+    desk_close(s);
+    EXPECT_REFUSED(s, desk_sweep(s, 1).refusal, 21, 0);
+    EXPECT_DONE(desk_open(s, file, sizeof file));
+    expect_passed(judged(s, 10 * T, T, -T));
+}
+
+static void test_arbitrary_sessions(void) {
+    desk_session s;
+    uint8_t *bytes = (uint8_t *)&s;
+    for (int value = 0; value <= 0xFF; value++) {
+        memset(&s, value, sizeof s);
+        expect_answers(&s);
+    }
+    for (int round = 0; round < 200; round++) { /* drawn bytes, with heads from none right to all right */
+        for (size_t k = 0; k < sizeof s; k++) bytes[k] = (uint8_t)drawn();
+        if (round % 2) s.held[0] = drawn() % 18;
+        if (round % 3) s.held[1] = drawn() % 65538;
+        if (round % 5) s.held[2] = drawn() % 4098;
+        expect_answers(&s);
+    }
+    for (int round = 0; round < 200; round++) { /* an open session with a byte changed */
+        s = opened_f(1 + drawn() % 65536);
+        bytes[drawn() % sizeof s] ^= (uint8_t)(1 + drawn() % 255);
+        expect_answers(&s);
+    }
+    for (int round = 0; round < 200; round++) { /* one of the fields in use at an extreme */
+        s = opened_f(1);
+        int64_t *fields[] = {&s.matrix[drawn() % 65], &s.right_hand[drawn() % 3], &s.mean[drawn() % 3]};
+        *fields[round % 3] = round % 2 ? INT64_MIN : INT64_MAX;
+        s.own[drawn() % 3] = round % 7 ? s.own[0] : UINT64_MAX;
+        expect_answers(&s);
+    }
+}
+
+int main(int count, char **arguments) {
+    if (count != 3) {
+        fprintf(stderr, "usage: desk_test SAMPLE LISTING\n");
+        return 2;
+    }
+    test_figures_of_f();
+    test_files_refused();
+    test_limits_are_taken();
+    test_nothing_open();
+    test_open_twice();
+    test_judge_refused();
+    test_numbers_of_sweeps_refused();
+    test_spent();
+    test_read();
+    test_rows_of_f();
+    test_sample(arguments[1], arguments[2]);
+    test_arbitrary_sessions();
+    printf("%lu\n", checked);
+    return 0;
+}

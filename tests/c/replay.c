@@ -1,0 +1,109 @@
+/* Replays a script of calls (docs/CALLS.md) through the C interface and prints the answers as the program `calls` does, so that
+ * they can be compared with the reference's. A refused call that changes the session ends it with a line of its own. */
+#include "desk.h"
+
+#include <inttypes.h>
+#include <stdio.h>
+#include <stdlib.h>
+#include <string.h>
+
+enum { LONGEST_STRING = 4096 };
+typedef struct string { size_t length; uint8_t bytes[LONGEST_STRING]; } string;
+
+static void stop(const char *why) {
+    printf("%s\n", why);
+    exit(1);
+}
+
+static uint32_t number(void) {
+    uint8_t bytes[4];
+    if (fread(bytes, 1, 4, stdin) != 4) stop("the script ends inside a number");
+    return (uint32_t)bytes[0] << 24 | (uint32_t)bytes[1] << 16 | (uint32_t)bytes[2] << 8 | bytes[3];
+}
+
+static void read_string(string *into) {
+    into->length = number();
+    if (into->length > LONGEST_STRING) stop("a string is too long");
+    if (fread(into->bytes, 1, into->length, stdin) != into->length) stop("the script ends inside a string");
+}
+
+/* Says whether the call was refused, and prints the refusal. */
+static int is_refused(desk_refusal refusal) {
+    if (refusal.number != 0) printf("refused %" PRIu64 " at %" PRIu64 "\n", refusal.number, refusal.place);
+    return refusal.number != 0;
+}
+
+static void print_bytes(const char *name, const uint8_t *bytes, size_t length) {
+    printf("%s ", name);
+    for (size_t k = 0; k < length; k++) printf("%02x", bytes[k]);
+    printf("\n");
+}
+
+static int answers_open(desk_session *s) {
+    string file;
+    read_string(&file);
+    const int refused = is_refused(desk_open(s, file.bytes, file.length));
+    if (!refused) printf("opened\n");
+    return refused;
+}
+
+static int answers_judge(const desk_session *s) {
+    string record;
+    read_string(&record);
+    const desk_judgement judged = desk_judge(s, record.bytes, record.length);
+    if (is_refused(judged.refusal)) return 1;
+    if (judged.passed) printf("passed\n");
+    else printf("fails %" PRIu64 "\n", judged.part);
+    return 0;
+}
+
+static int answers_sweep(desk_session *s) {
+    const desk_sweeping swept = desk_sweep(s, number());
+    if (is_refused(swept.refusal)) return 1;
+    printf("%s %" PRIu64 "\n", swept.settled ? "settled" : "going", swept.total);
+    return 0;
+}
+
+static int answers_read(const desk_session *s) {
+    uint8_t buffer[LONGEST_STRING];
+    const size_t size = number();
+    if (size > LONGEST_STRING) stop("a buffer is too long");
+    memset(buffer, 0xA5, size);
+    const int refused = is_refused(desk_read(s, buffer, size));
+    if (!refused) printf("read\n");
+    print_bytes("buffer", buffer, size);
+    return refused;
+}
+
+static int answers_row(void) {
+    string file;
+    read_string(&file);
+    const uint32_t channel = number(), year = number();
+    const desk_shown row = desk_row(file.bytes, file.length, channel, year);
+    if (is_refused(row.refusal)) return 1;
+    if (row.start > file.length || row.length > file.length - row.start) stop("a row is no part of its file");
+    print_bytes("row", file.bytes + row.start, row.length);
+    return 0;
+}
+
+/* Prints the answer, and says whether the call was refused. */
+static int answers(int letter, desk_session *s) {
+    switch (letter) {
+    case 'o': return answers_open(s);
+    case 'j': return answers_judge(s);
+    case 's': return answers_sweep(s);
+    case 'r': return answers_read(s);
+    case 'w': return answers_row();
+    case 'c': desk_close(s); printf("closed\n"); return 0;
+    default: stop("a letter is unknown"); return 0;
+    }
+}
+
+int main(void) {
+    desk_session session = DESK_EMPTY;
+    for (int letter; (letter = getchar()) != EOF;) {
+        const desk_session before = session;
+        if (answers(letter, &session) && memcmp(&before, &session, sizeof before) != 0) stop("a refused call changed the session");
+    }
+    return 0;
+}
