@@ -1,0 +1,134 @@
+"""Files and records from plain numbers: to the byte as the reference builds them, and what does not fit is named."""
+
+import unittest
+from dataclasses import replace
+from random import Random
+
+import paths  # noqa: F401
+
+import layout
+import samples
+from layout import File, build_file, build_record
+from reserving_desk import Mean, Prior, Refused, Session, file_of, record_of
+
+
+def built(file: File) -> bytes:
+    """The reference's numbers through the package's builder, as lists."""
+    priors = [Prior(*pair) for pair in zip(file.prior_means, file.prior_variances)]
+    return file_of(
+        [list(row) for row in file.paid],
+        [list(row) for row in file.incurred],
+        sigma_squared=list(file.sigma2),
+        tau_squared=list(file.tau2),
+        phi_priors=priors[:file.last + 1],
+        psi_priors=priors[file.last + 1:],
+        closeness=file.closeness,
+    )
+
+
+def refusal_number(file: bytes) -> int:
+    try:
+        Session().open(file)
+    except Refused as refused:
+        return refused.number
+    return 0
+
+
+class Files(unittest.TestCase):
+    def test_as_the_reference_builds_them(self) -> None:
+        rng = Random("builders")
+        drawn = [samples.drawn_file(rng, last) for last in range(1, 16) for _ in range(4)]
+        limits = [samples.file_at_limits(last, end) for last in (1, 15) for end in (0, 1)]
+        for file in (samples.file_f(), *drawn, *limits):
+            self.assertEqual(built(file), build_file(file))
+
+    def test_beyond_the_limits_is_written_and_refused(self) -> None:
+        f = samples.file_f()
+        beyond = {
+            3: samples.file_at_limits(16, 0),
+            5: replace(f, closeness=(1 << 32) - 1),
+            6: replace(f, sigma2=(0, 1 << 30)),
+            7: replace(f, prior_variances=(1 << 46, 1 << 46, (1 << 64) - 1)),
+            8: replace(f, prior_means=(-(1 << 31), (1 << 31) - 1, 0)),
+            9: replace(f, paid=((1 << 10, 1 << 11), (0,))),
+            10: replace(f, incurred=((1 << 12, 1 << 12), (1 << 12,))),
+        }
+        for number, file in beyond.items():
+            self.assertEqual(built(file), build_file(file))
+            self.assertEqual(refusal_number(built(file)), number)
+        one_year = File(0, 1, (1 << 30,), (), (0,), (1 << 46,), ((1,),), ((1,),))
+        self.assertEqual(refusal_number(built(one_year)), 3)
+
+    def test_what_does_not_fit_is_named(self) -> None:
+        f = samples.file_f()
+        wrong = {
+            "closeness is 4294967296, and its 4 bytes hold 0 to 4294967295": replace(f, closeness=1 << 32),
+            "closeness is -1, ": replace(f, closeness=-1),
+            "sigma squared of column 1 is -1, ": replace(f, sigma2=(1 << 30, -1)),
+            "tau squared of column 0 is 18446744073709551616, ": replace(f, tau2=(1 << 64,)),
+            "prior mean of Psi 0 is 2147483648, and its 4 bytes hold -2147483648 to 2147483647": replace(
+                f, prior_means=(0, 0, 1 << 31)
+            ),
+            "prior variance of Phi 0 is -5, ": replace(f, prior_variances=(-5, 1 << 46, 1 << 46)),
+            "paid amount, year 1, column 0 is -7, ": replace(f, paid=((1 << 10, 1 << 11), (-7,))),
+            "incurred amount, year 0, column 1 is 18446744073709551616, ": replace(f, incurred=((1, 1 << 64), (1,))),
+            "J is 256, and its 1 bytes hold 0 to 255": samples.file_at_limits(256, 0),
+        }
+        for message, file in wrong.items():
+            with self.assertRaisesRegex(ValueError, f"^{message}"):
+                built(file)
+
+    def test_wrong_shapes_are_named(self) -> None:
+        f = samples.file_f()
+        wrong = {
+            "paid has no accident year": replace(f, paid=()),
+            "incurred has 1 accident years, not 2": replace(f, incurred=f.incurred[:1]),
+            "paid, year 1, has 2 amounts, not 1": replace(f, paid=((1, 2), (1, 2))),
+            "incurred, year 0, has 1 amounts, not 2": replace(f, incurred=((1,), (1,))),
+            "sigma_squared has 1 variances, not 2": replace(f, sigma2=(1 << 30,)),
+            "tau_squared has 0 variances, not 1": replace(f, tau2=()),
+            "psi_priors has 2 priors, not 1": replace(f, prior_means=(0,) * 4, prior_variances=(1 << 46,) * 4),
+        }
+        for message, file in wrong.items():
+            with self.assertRaisesRegex(ValueError, f"^{message}$"):
+                built(file)
+
+    def test_only_whole_numbers(self) -> None:
+        f = samples.file_f()
+        for amount in (1024.0, "1024", None):
+            with self.assertRaisesRegex(TypeError, "^paid amount, year 1, column 0 is a whole number, not "):
+                built(replace(f, paid=((1 << 10, 1 << 11), (amount,))))
+
+
+class Records(unittest.TestCase):
+    def test_as_the_reference_builds_them(self) -> None:
+        rng = Random("records")
+        for last in range(1, 16):
+            parts = tuple(rng.randint(-(1 << 31), (1 << 31) - 1) for _ in range(layout.parts_count(last)))
+            self.assertEqual(record_of(Mean(parts[:last + 1], parts[last + 1:])), build_record(parts))
+
+    def test_read_back(self) -> None:
+        rng = Random("read back")
+        for last in (1, 4, 15):
+            desk = Session()
+            desk.open(build_file(replace(samples.drawn_file(rng, last), closeness=65_536)))
+            while not desk.sweep(100).settled:
+                pass
+            mean = desk.read()
+            self.assertEqual((len(mean.phi), len(mean.psi)), (last + 1, last))
+            self.assertTrue(desk.judge(record_of(mean)).passed)
+            buffer = bytearray(layout.record_length(last))
+            desk.read_into(buffer)
+            self.assertEqual(record_of(mean), bytes(buffer))
+
+    def test_what_does_not_fit_is_named(self) -> None:
+        with self.assertRaisesRegex(ValueError, "^part Psi 0 is 2147483648, "):
+            record_of(Mean((0, 0), (1 << 31,)))
+        with self.assertRaisesRegex(TypeError, "^part Phi 1 is a whole number, not 0.5"):
+            record_of(Mean((0, 0.5), (0,)))
+        with self.assertRaisesRegex(ValueError, "one phi more than psi, not 2 and 2"):
+            Mean((0, 0), (0, 0))
+
+
+if __name__ == "__main__":
+    unittest.main()

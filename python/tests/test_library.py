@@ -1,0 +1,40 @@
+"""The library is found, or what to do is said."""
+
+import os
+import shutil
+import tempfile
+import unittest
+from pathlib import Path
+from unittest import mock
+
+import paths  # noqa: F401
+
+import samples
+from layout import build_file
+from reserving_desk import LibraryMissing, Session, Sweeping
+from reserving_desk.library import VARIABLE, library_path
+
+
+class Library(unittest.TestCase):
+    def test_named_by_the_environment(self) -> None:
+        with tempfile.TemporaryDirectory() as folder:
+            copy = shutil.copy(library_path(), Path(folder) / "elsewhere.so")
+            with mock.patch.dict(os.environ, {VARIABLE: str(copy)}):
+                desk = Session()
+            desk.open(build_file(samples.file_f()))
+            self.assertEqual(Path(desk._library._name), Path(copy).resolve())
+            self.assertEqual(desk.sweep(), Sweeping(True, 0))
+
+    def test_missing(self) -> None:
+        with mock.patch.dict(os.environ, {VARIABLE: "/nowhere/libdesk.so"}):
+            with self.assertRaisesRegex(LibraryMissing, r"no library /nowhere/libdesk.so: run \./build"):
+                Session()
+
+    def test_something_else(self) -> None:
+        with mock.patch.dict(os.environ, {VARIABLE: __file__}):
+            with self.assertRaisesRegex(LibraryMissing, r"is not the desk's library: run \./build"):
+                Session()
+
+
+if __name__ == "__main__":
+    unittest.main()

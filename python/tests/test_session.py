@@ -1,0 +1,174 @@
+"""The calls: document 01's figures of File F, and sessions against the reference, answer by answer."""
+
+import unittest
+from array import array
+from concurrent.futures import ThreadPoolExecutor
+from random import Random
+
+import scripts
+from paths import ROOT
+
+import layout
+import samples
+import vectors
+import vectors_calls
+from layout import build_file, build_record
+from reserving_desk import INCURRED, PAID, TICKS_PER_DOUBLING as T
+from reserving_desk import Judgement, Mean, Refused, Session, Sweeping
+
+F = build_file(samples.file_f())
+SETTLED = (10 * T, T, -T)
+
+
+class FileF(unittest.TestCase):
+    def setUp(self) -> None:
+        self.desk = Session()
+        self.desk.open(F)
+
+    def judged(self, *parts: int) -> Judgement:
+        return self.desk.judge(build_record(parts))
+
+    def test_judged(self) -> None:
+        self.assertEqual(self.judged(*SETTLED), Judgement(True, None))
+        self.assertEqual(self.judged(10 * T + 1, T, -T), Judgement(True, None))
+        self.assertEqual(self.judged(10 * T + 2, T, -T), Judgement(False, 0))
+        self.assertEqual(self.judged(10 * T, T + 1, -T), Judgement(False, 1))
+
+    def test_closeness_2(self) -> None:
+        self.desk.close()
+        self.desk.open(build_file(samples.file_f(closeness=2)))
+        self.assertEqual(self.judged(10 * T, T + 1, -T), Judgement(True, None))
+
+    def test_swept_and_read(self) -> None:
+        self.assertEqual(self.desk.sweep(), Sweeping(True, 0))
+        mean = self.desk.read()
+        self.assertEqual(mean, Mean(phi=(10 * T, T), psi=(-T,)))
+        self.assertEqual(mean.parts, SETTLED)
+
+    def test_answers_are_true_where_the_mean_passes(self) -> None:
+        self.assertTrue(self.judged(*SETTLED))
+        self.assertFalse(self.judged(0, 0, 0))
+        self.assertTrue(Sweeping(True, 0))
+        self.assertFalse(Sweeping(False, 1))
+
+    def test_rows(self) -> None:
+        self.assertEqual(self.desk.row(F, PAID, 0), (1 << 10, 1 << 11))
+        self.assertEqual(self.desk.row(F, PAID, 1), (1 << 10,))
+        self.assertEqual(self.desk.row(F, INCURRED, 0), (1 << 12, 1 << 11))
+        self.assertEqual(self.desk.row(F, INCURRED, 1), (1 << 12,))
+
+
+class Lent(unittest.TestCase):
+    def test_any_bytes(self) -> None:
+        words = array("H")
+        words.frombytes(F)
+        for file in (bytearray(F), memoryview(F), memoryview(bytes(2) + F)[2:], memoryview(F[::-1])[::-1], words):
+            with Session() as desk:
+                desk.open(file)
+                self.assertEqual(desk.judge(bytearray(build_record(SETTLED))), Judgement(True, None))
+
+    def test_no_bytes(self) -> None:
+        desk = Session()
+        for wrong in ("text", 118, None, [1, 2]):
+            for call in (desk.open, desk.judge, desk.read_into, lambda wrong: desk.row(wrong, 0, 0)):
+                with self.assertRaises(TypeError):
+                    call(wrong)
+
+    def test_buffer(self) -> None:
+        desk = Session()
+        desk.open(F)
+        record = build_record(SETTLED)
+        for size in (len(record), len(record) + 1, 40):
+            buffer = bytearray(scripts.LENT_BYTE * size)
+            desk.read_into(memoryview(buffer))
+            self.assertEqual(buffer, record + scripts.LENT_BYTE * (size - len(record)))
+            buffer.append(0)  # nothing holds on to it
+        with self.assertRaises(TypeError):
+            desk.read_into(bytes(40))
+
+
+class Numbers(unittest.TestCase):
+    """Every whole number has document 01's answer, also those beyond 64 bits."""
+
+    def refusal(self, call: str, *arguments: object) -> int:
+        desk = Session()
+        desk.open(F)
+        with self.assertRaises(Refused) as caught:
+            getattr(desk, call)(*arguments)
+        return caught.exception.number
+
+    def test_sweeps(self) -> None:
+        for n in (0, 4_097, -1, 1 << 64, (1 << 64) + 1, 1 - (1 << 64)):
+            self.assertEqual(self.refusal("sweep", n), 12)
+
+    def test_row(self) -> None:
+        for past in (2, 256, 1 << 32, 1 << 64, 1 << 70):
+            self.assertEqual(self.refusal("row", F, past, 0), 14)
+            self.assertEqual(self.refusal("row", F, 0, past), 15)
+
+    def test_none_of_document_01(self) -> None:
+        desk = Session()
+        for arguments in ((-1, 0), (0, -1)):
+            with self.assertRaisesRegex(ValueError, "is at least 0, not -1"):
+                desk.row(F, *arguments)
+        for call in (lambda: desk.sweep(1.5), lambda: desk.row(F, 0.0, 0), lambda: desk.row(F, 0, "1")):
+            with self.assertRaises(TypeError):
+                call()
+
+
+class Sessions(unittest.TestCase):
+    def test_context(self) -> None:
+        desk = Session()
+        with desk as same:
+            self.assertIs(same, desk)
+            desk.open(F)
+        with self.assertRaises(Refused) as caught:
+            desk.read()
+        self.assertEqual(caught.exception.number, 21)
+        desk.open(F)  # a closed session can be opened again
+
+    def test_apart(self) -> None:
+        one, other = Session(), Session()
+        one.open(F)
+        with self.assertRaises(Refused):
+            other.read()
+        other.open(build_file(samples.many_sweeps(3)))
+        self.assertEqual(one.read().parts, SETTLED)
+
+    def test_threads_share_a_session(self) -> None:
+        """Each sweep is counted once, whichever thread asked for it."""
+        desk = Session()
+        desk.open(build_file(samples.spent_at_a_limit()))
+        with ThreadPoolExecutor(8) as pool:
+            totals = sorted(swept.total for swept in pool.map(desk.sweep, [1] * 400))
+        self.assertEqual(totals, list(range(1, 401)))
+
+
+class AgainstTheReference(unittest.TestCase):
+    def assert_same(self, script: bytes, expected: str) -> None:
+        answers = list(scripts.answers(script))
+        for line, (ours, theirs) in enumerate(zip(answers, expected.splitlines()), start=1):
+            self.assertEqual(ours, theirs, f"line {line}")
+        self.assertEqual(len(answers), len(expected.splitlines()))
+
+    def test_scenes(self) -> None:
+        """The script that the gate runs `calls` on, whose answers the reference gave."""
+        folder = ROOT / "crates" / "calls"
+        self.assert_same((folder / "stdin").read_bytes(), (folder / "stdout").read_text())
+
+    def test_drawn_sessions(self) -> None:
+        rng = Random("package 1")
+        for _ in range(40):
+            script = b"".join(vectors_calls.drawn_session(rng))
+            self.assert_same(script, vectors.answers(script).decode())
+
+    def test_every_j(self) -> None:
+        rng = Random("package 2")
+        for last in range(1, layout.LARGEST_YEAR + 1):
+            file = samples.drawn_file(rng, last)
+            script = b"".join((*vectors_calls.settle_and_read(rng, file), *vectors_calls.every_row(build_file(file))))
+            self.assert_same(script, vectors.answers(script).decode())
+
+
+if __name__ == "__main__":
+    unittest.main()
