@@ -1,7 +1,7 @@
 """Files and mean records from plain numbers.
 
-A builder checks what the bytes can hold, and no more: a number that does not fit its field is a ValueError that names the field, while
-one that fits and is beyond document 01's limits is written, and the desk refuses it.
+A builder checks what the bytes can hold, and no more: a number that does not fit its field is a ValueError that names the
+field, while one that fits and is beyond document 01's limits is written, and the desk refuses it.
 """
 
 from __future__ import annotations

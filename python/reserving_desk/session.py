@@ -97,7 +97,10 @@ class Session:
         _raise_if_refused(refusal)
 
     def row(self, file: BytesLike, channel: int, year: int) -> tuple[int, ...]:
-        """An accident year's amounts in the paid (0) or incurred (1) block of a file; needs nothing open. Refused with 1 to 10, 14, 15."""
+        """An accident year's amounts in the paid (0) or incurred (1) block of a file, whatever is open.
+
+        Refused with 1 to 10, 14, 15.
+        """
         lent = _lent(file)
         numbers = (_unsigned("channel", channel), _unsigned("year", year))
         shown = self._library.desk_row(lent, len(lent), *numbers)

@@ -70,12 +70,15 @@ static const struct { size_t place, width; uint64_t value, number, refused_at; }
     {102, 8, 1 << 12, 10, 78},
 };
 
+static void expect_row_refused(desk_shown row, uint64_t number, uint64_t place) {
+    expect_refusal(__LINE__, "desk_row", row.refusal, number, place);
+    EXPECT(row.length == 0);
+}
+
 static void expect_file_refused(const uint8_t *file, size_t length, uint64_t number, uint64_t place) {
     desk_session s = DESK_EMPTY;
     EXPECT_REFUSED(&s, desk_open(&s, file, length), number, place);
-    const desk_shown row = desk_row(file, length, 2, 99); /* 1 to 10 come before 14 and 15 */
-    expect_refusal(__LINE__, "desk_row", row.refusal, number, place);
-    EXPECT(row.length == 0);
+    expect_row_refused(desk_row(file, length, 2, 99), number, place); /* 1 to 10 come before 14 and 15 */
 }
 
 static void test_files_refused(void) {
@@ -229,10 +232,8 @@ static void test_rows_of_f(void) {
     expect_row(file, sizeof file, DESK_INCURRED, 0, 94, 16);
     expect_row(file, sizeof file, DESK_INCURRED, 1, 110, 8);
     for (size_t k = 0; k < sizeof FAR / sizeof *FAR; k++) {
-        const desk_shown channel = desk_row(file, sizeof file, FAR[k], 2), year = desk_row(file, sizeof file, DESK_INCURRED, FAR[k]);
-        expect_refusal(__LINE__, "desk_row", channel.refusal, 14, 0);
-        expect_refusal(__LINE__, "desk_row", year.refusal, 15, 0);
-        EXPECT(channel.length == 0 && year.length == 0);
+        expect_row_refused(desk_row(file, sizeof file, FAR[k], 2), 14, 0);
+        expect_row_refused(desk_row(file, sizeof file, DESK_INCURRED, FAR[k]), 15, 0);
     }
 }
 
