@@ -1,7 +1,7 @@
 """The reserves of the paper's Table 3, last column, from its Tables 2, 10 and 11: `python3 python/examples/table_3.py`.
 
-The desk settles the posterior mean; formula (3.7) of the paper then gives each accident year's expected ultimate in floats. What is
-paid already goes off, and what is left is printed beside the paper's figure.
+The desk settles the posterior mean; formula (3.7) of the paper then gives each accident year's expected ultimate in floats.
+What is paid already goes off, and what is left is printed beside the paper's figure.
 """
 
 import sys

@@ -1,6 +1,6 @@
-/* The C interface, call by call: answers, numbers and places of refusals, what a refusal leaves unchanged, null with length 0, and
- * sessions of arbitrary bytes. Expected numbers are document 01's; those of the sample and of the file that never settles are
- * the reference's. Arguments: the sample's file and its listing. */
+/* The C interface, call by call: answers, numbers and places of refusals, what a refusal leaves unchanged, null with length 0,
+ * and sessions of arbitrary bytes. Expected numbers are document 01's; those of the sample and of the file that never settles
+ * are the reference's. Arguments: the sample's file and its listing. */
 #include "support.h"
 
 static desk_session opened(const uint8_t *file, size_t length) {
@@ -350,18 +350,18 @@ int main(int count, char **arguments) {
         fprintf(stderr, "usage: desk_test SAMPLE LISTING\n");
         return 2;
     }
-    test_figures_of_f();
-    test_files_refused();
-    test_limits_are_taken();
-    test_nothing_open();
-    test_open_twice();
-    test_judge_refused();
-    test_numbers_of_sweeps_refused();
-    test_spent();
-    test_read();
-    test_rows_of_f();
-    test_sample(arguments[1], arguments[2]);
-    test_arbitrary_sessions();
+    RUN(test_figures_of_f)();
+    RUN(test_files_refused)();
+    RUN(test_limits_are_taken)();
+    RUN(test_nothing_open)();
+    RUN(test_open_twice)();
+    RUN(test_judge_refused)();
+    RUN(test_numbers_of_sweeps_refused)();
+    RUN(test_spent)();
+    RUN(test_read)();
+    RUN(test_rows_of_f)();
+    RUN(test_sample)(arguments[1], arguments[2]);
+    RUN(test_arbitrary_sessions)();
     printf("%lu\n", checked);
     return 0;
 }

@@ -103,7 +103,8 @@ int main(void) {
     desk_session session = DESK_EMPTY;
     for (int letter; (letter = getchar()) != EOF;) {
         const desk_session before = session;
-        if (answers(letter, &session) && memcmp(&before, &session, sizeof before) != 0) stop("a refused call changed the session");
+        const int refused = answers(letter, &session);
+        if (refused && memcmp(&before, &session, sizeof before) != 0) stop("a refused call changed the session");
     }
     return 0;
 }

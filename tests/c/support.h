@@ -11,11 +11,12 @@
 enum { F_LENGTH = 118, F_RECORD = 17, LONGEST_FILE = 2806 };
 
 static unsigned long checked; /* so many facts */
+static const char *running;   /* the test's name */
 
 static void expect(int line, const char *what, int holds) {
     checked++;
     if (!holds) {
-        fprintf(stderr, "line %d: not so: %s\n", line, what);
+        fprintf(stderr, "%s, line %d: not so: %s\n", running, line, what);
         exit(1);
     }
 }
@@ -23,12 +24,13 @@ static void expect(int line, const char *what, int holds) {
 static void expect_refusal(int line, const char *call, desk_refusal got, uint64_t number, uint64_t place) {
     checked++;
     if (got.number != number || got.place != place) {
-        fprintf(stderr, "line %d: %s is refused with %" PRIu64 " at %" PRIu64 ", not with %" PRIu64 " at %" PRIu64 "\n",
-                line, call, got.number, got.place, number, place);
+        fprintf(stderr, "%s, line %d: %s is refused with %" PRIu64 " at %" PRIu64 ", not with %" PRIu64 " at %" PRIu64 "\n",
+                running, line, call, got.number, got.place, number, place);
         exit(1);
     }
 }
 
+#define RUN(test) (running = #test, test)
 #define EXPECT(fact) expect(__LINE__, #fact, (fact))
 #define EXPECT_DONE(refusal) expect_refusal(__LINE__, #refusal, (refusal), 0, 0)
 
