@@ -10,7 +10,7 @@
 enum { LONGEST_STRING = 4096 };
 typedef struct string { size_t length; uint8_t bytes[LONGEST_STRING]; } string;
 
-static void stop(const char *why) {
+static _Noreturn void stop(const char *why) {
     printf("%s\n", why);
     exit(1);
 }
@@ -95,7 +95,7 @@ static int answers(int letter, desk_session *s) {
     case 'r': return answers_read(s);
     case 'w': return answers_row();
     case 'c': desk_close(s); printf("closed\n"); return 0;
-    default: stop("a letter is unknown"); return 0;
+    default: stop("a letter is unknown");
     }
 }
 

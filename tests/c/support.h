@@ -37,9 +37,9 @@ static void expect_refusal(int line, const char *call, desk_refusal got, uint64_
 /* The call is refused so, and the session stays as it was. */
 #define EXPECT_REFUSED(session, refusal, number, place)                                                                        \
     do {                                                                                                                       \
-        const desk_session before = *(session);                                                                                \
+        const desk_session before_call = *(session);                                                                           \
         expect_refusal(__LINE__, #refusal, (refusal), (number), (place));                                                      \
-        EXPECT(memcmp(&before, (session), sizeof before) == 0);                                                                \
+        EXPECT(memcmp(&before_call, (session), sizeof before_call) == 0);                                                      \
     } while (0)
 
 /* A big-endian field; a negative value in two's complement. */
