@@ -46,14 +46,14 @@ typedef struct desk_refusal {
     uint64_t place;
 } desk_refusal;
 
-/* Unless refused: passed is 1, or it is 0 and part is the first part that fails (phi 0..J are parts 0..J, then psi). */
+/* Passed is 1, or it is 0 and part is the first part that fails (phi 0..J are parts 0..J, then psi). Both are 0 where refused. */
 typedef struct desk_judgement {
     desk_refusal refusal;
     uint64_t passed;
     uint64_t part;
 } desk_judgement;
 
-/* Unless refused: settled is 1, or 0 while still going; total is the number of sweeps run since open. */
+/* Settled is 1, or 0 while still going; total is the number of sweeps run since open. Both are 0 where refused. */
 typedef struct desk_sweeping {
     desk_refusal refusal;
     uint64_t settled;
@@ -76,7 +76,7 @@ desk_sweeping desk_sweep_lent(uint64_t held[3], const uint64_t own[31], const in
                               int64_t mean[31], uint64_t n);
 desk_refusal desk_read_lent(const uint64_t held[3], const uint64_t own[31], const int64_t matrix[961],
                             const int64_t right_hand[31], const int64_t mean[31], uint8_t *buffer, size_t length);
-void desk_close_lent(uint64_t held[3], uint64_t own[31], int64_t matrix[961], int64_t right_hand[31], int64_t mean[31]);
+void desk_close_lent(uint64_t held[3]);
 
 /* Opens a file: the session then holds its figures, the prior means as mean and 0 sweeps.
  * May be refused with 22, then 1 to 10, then 16 (which never happens). */
@@ -106,9 +106,9 @@ static inline desk_refusal desk_read(const desk_session *s, uint8_t *buffer, siz
  * May be refused with 1 to 10, then 14, then 15. */
 desk_shown desk_row(const uint8_t *file, size_t length, uint64_t channel, uint64_t year);
 
-/* Empties the session. It is never refused. */
+/* Empties the session: nothing is open then, though the other fields keep what they held. It is never refused. */
 static inline void desk_close(desk_session *s) {
-    desk_close_lent(s->held, s->own, s->matrix, s->right_hand, s->mean);
+    desk_close_lent(s->held);
 }
 
 #ifdef __cplusplus

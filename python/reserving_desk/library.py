@@ -65,7 +65,7 @@ def _declare(library: ctypes.CDLL) -> None:
         "desk_sweep_lent": (Swept, session + [c_uint64]),
         "desk_read_lent": (Refusal, session + [POINTER(c_uint8), c_size_t]),
         "desk_row": (Shown, lent + [c_uint64, c_uint64]),
-        "desk_close_lent": (None, session),
+        "desk_close_lent": (None, session[:1]),
     }
     for name, (answer, arguments) in functions.items():
         function = getattr(library, name)

@@ -112,7 +112,7 @@ class Session:
     def close(self) -> None:
         """Empties the session, which can be opened again; never refused."""
         with self._one_at_a_time:
-            self._library.desk_close_lent(*self._fields)
+            self._library.desk_close_lent(self._fields[0])
 
     def __enter__(self) -> Session:
         return self
