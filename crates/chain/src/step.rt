@@ -71,3 +71,11 @@ pub fn step(last: usize, matrix: &[i64; 961], working: Working, k: usize) -> Wor
         residues: moved,
     }
 }
+
+// The pair stepped where it is held.
+pub fn step_in(working: &mut Working, last: usize, matrix: &[i64; 961], k: usize)
+    requires { ⌜ Steps last (now matrix) (now working) k ⌝ }
+    ensures { λ _. ⌜ Stepped last (now (matrix .entry)) (now (working .entry)) k (now (working .exit)) ⌝ }
+{
+    *working = step(last, matrix, *working, k);
+}
