@@ -47,7 +47,7 @@ fn follow(last: usize, matrix: &[i64; 961], residues: &mut [i64; 31], k: usize, 
 }
 
 // Part k changes by floor((A_kk − 2·residue) / (2·A_kk)) and is brought back; residues follow.
-pub fn step(last: usize, matrix: &[i64; 961], working: Working, k: usize) -> Working
+fn step(last: usize, matrix: &[i64; 961], working: Working, k: usize) -> Working
     requires { ⌜ Steps last (now matrix) working k ⌝ }
     ensures { λ r. ⌜ Stepped last (now (matrix .entry)) working k r ⌝ }
 {

@@ -23,7 +23,7 @@ use prog.Wp.{Heap, Out, Env, Calls, Loops, Wp, WpFn, Tables, afterSeq, afterBloc
 use ghost.Atoms.{Atoms}
 use contract.Monad.{Fun, fact}
 use contract.Running.{givenOf, tables, tablesOf}
-use types.Kit.{Given, Item, ‵, raw, given, _⊛_, ⋆, some, later, Sq, runs, anyQ, atRet, _$_, _∵_, !, qed, by, move, keep, drop, use1, use3, rewrite, split, join, pick, learn, fsplit, fjoin, feqL, suffices, frame, await, done}
+use types.Kit.{Goal, Step, step, nth, Given, Item, ‵, raw, given, _⊛_, ⋆, some, later, Sq, runs, anyQ, atRet, _$_, _∵_, !, qed, by, move, keep, drop, use1, use3, rewrite, split, join, pick, learn, fsplit, fjoin, feqL, suffices, frame, await, done}
 use types.Run.{look, init, store, forget, stop, from, load, lit, addr, bin, of-opd, and-then, no-more, assigns, assigns-last, land, first, blocks, stays, leaves-loop, exec, Below, again, loops, returns, enter, alloc1, alloc0, params1, pass1, pass0, free1, free0}
 use types.SemTy.{Body}
 use types.Tokens.{lft-new, lft-end}
@@ -72,6 +72,11 @@ stayed = (stay-none (λ _. usize) yes, (stay-none-ref (0 ∷ []) tt MatrixS yes,
 -- the contract that the proof cites
 abbrev StepIn : {M : Type 1} (𝓤 : URA M) (H : Heap 𝓤) (A : Atoms 𝓤) (mem : Memory → SProp 𝓤) (run : Routine → Fun 𝓤) → Contract 𝓤
 StepIn 𝓤 H A mem run = tripleOf 𝓤 H A step-in.signature (step-in.spec 𝓤 H A mem run)
+
+-- entry i of the context is a local that holds the number n: a step that says so, and changes nothing
+holds-number : {M : Type 1} {𝓤 : URA M} {H : Heap 𝓤} {A : Atoms 𝓤} {K : Type 0} {W : Given 𝓤 H A} {Γ : List (Item 𝓤)} {G : Goal 𝓤 H}
+    → K → (i n : ℕ) {l : ℕ} → nth 𝓤 H A i Γ ≡ ‵ (fat fullShare (tyInt w64) l 0 (vint w64 n)) → Step K W Γ G Γ G
+holds-number t i n e = step (λ s. s)
 
 -- ---- the loop's variant: how far the sweep of w has come
 record Reached (last : ℕ) (A : List ℤ) (w : Working) : Type 0 where
@@ -199,6 +204,8 @@ module _ {M : Type 1} (𝓤 : URA M) (H : Heap 𝓤) (A : Atoms 𝓤) (W : Given
         -- [the matrix's token; …; current; the matrix; _10; …; _9; …; _8; …; _7; …; k; …; …; parts; …; working; …; matrix; …; last; …; room for _0; …]
         assigns-last ! (bin ! (load ! (from ! (stop !)) (look ! 12 refl)) (lit ! tt) (record { fits = omega (arith, parts-below pre) })) (from ! (stop !)) (store ! 12 refl (tt, record { fits = omega (arith, parts-below pre) })) $
         forget ! 4 refl $ forget ! 6 refl $ forget ! 8 refl $
+        -- the next part is the one after part k
+        holds-number ! 12 (s .k + 1) refl $
         keep ! (4 ∷ 5 ∷ 6 ∷ 7 ∷ 8 ∷ 9 ∷ 10 ∷ 11 ∷ 12 ∷ 13 ∷ 2 ∷ 14 ∷ 15 ∷ 16 ∷ 17 ∷ 18 ∷ 19 ∷ 20 ∷ 21 ∷ 22 ∷ 23 ∷ 24 ∷ 0 ∷ 3 ∷ []) $
         again ! Nearer At s (next pre s below stepped is) (omega arith)))))))))
     turn-at s false test =
@@ -224,6 +231,8 @@ module _ {M : Type 1} (𝓤 : URA M) (H : Heap 𝓤) (A : Atoms 𝓤) (W : Given
       assigns ! (bin ! (load ! (from ! (stop !)) (look ! 6 refl)) (lit ! tt) (record { fits = omega (arith, parts-below pre) })) (from ! (stop !)) (init ! 12 refl (tt, record { fits = omega (arith, parts-below pre) })) $
       assigns ! (of-opd ! (load ! (from ! (stop !)) (look ! 14 refl))) (from ! (stop !)) (init ! 10 refl (typed 𝓤 H A W w (mach w) w-is)) $
       assigns ! (of-opd ! (lit ! tt)) (from ! (stop !)) (init ! 8 refl (tt, record { fits = lit< tt })) $ forget ! 6 refl $
+      -- the sweep is of all parts, and begins at part 0
+      holds-number ! 12 (parts last) refl $ holds-number ! 8 0 refl $
       first ! $ blocks ! $ loops ! 𝓣 Nearer nearer-wf (At 𝓣 known l₀ l₁ l₂ l₃ l₄ l₅ l₆ l₇ l₈ l₉ l₁₀) (turns 𝓣 known l₀ l₁ l₂ l₃ l₄ l₅ l₆ l₇ l₈ l₉ l₁₀) (starts pre w-is))))))))))))
 
 module _ {M : Type 1} (𝓤 : URA M) (H : Heap 𝓤) (A : Atoms 𝓤) (W : Given 𝓤 H A) (mem : Memory → SProp 𝓤) (run : Routine → Fun 𝓤) where
