@@ -4,7 +4,7 @@
 use mathlib.Core.Path.{_≡_, refl, sym, ap, subst}
 use mathlib.Core.Bool.{Bool, true, false}
 use mathlib.Core.WellFounded.{WellFounded, InvImage·wf}
-use Prim.Native.Nat.{ℕ, _+_, _*_, _-_, _≤_, _<_, _^_, zero-le}
+use Prim.Native.Nat.{ℕ, _+_, _-_, _≤_, _<_, _^_, zero-le}
 use mathlib.Core.List.{[], _∷_, List}
 use native.Mathlib.Omega.{arith}
 use borrow.Author.Tests.{ltb-true, ltb-false}
@@ -14,9 +14,9 @@ use lib.Dec.{T as Holds, ltb, lit<}
 use lib.IntN.{ℤ}
 use lib.WfN.{Nat·lt-wfRel}
 use mir.Syntax.{Ty, named, erased, imm, mut, w64, tyInt, tyBool, tyUnit, tyRef}
-use mir.Val.{Val, WT, hasTy, vint, vbool, vptr, vunit}
+use mir.Val.{Val, WT, hasTy, vint, vbool, vptr}
 use base.Logic.{SProp, ent, id⊢}
-use base.Fml.{Lft, Share, GName, Fml, ftrue, fat, froom, fdies, flft, fres, flent}
+use base.Fml.{Lft, Share, GName, Fml, ftrue, fat, froom, fdies, flft, flent}
 use prog.Memory.{Memory}
 use prog.Routine.{Routine}
 use prog.Wp.{Heap, Out, Env, Calls, Loops, Wp, WpFn, Tables, afterSeq, afterBlock, afterTurn, atReturn}
@@ -27,7 +27,7 @@ use types.Kit.{Goal, Step, step, nth, Given, Item, ‵, raw, given, _⊛_, ⋆, 
 use types.Run.{look, init, store, forget, stop, from, load, lit, addr, bin, of-opd, and-then, no-more, assigns, assigns-last, land, first, blocks, stays, leaves-loop, exec, Below, again, loops, returns, enter, alloc1, alloc0, params1, pass1, pass0, free1, free0}
 use types.SemTy.{Body}
 use types.Tokens.{lft-new, lft-end}
-use sound.WpLaws.{FmC, fmOf, WpFn-mono}
+use sound.WpLaws.{fmOf, WpFn-mono}
 use denote.RattleType.{owns}
 use denote.Laws.{Is}
 use denote.Memory.{mem, partAt, pointee}
