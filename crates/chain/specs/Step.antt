@@ -3,6 +3,7 @@ use Prim.Native.Nat.{ℕ, _*_, _^_, _≤_, _<_}
 use mathlib.Core.Path.{_≡_}
 use mathlib.Core.List.{List}
 use lib.IntN.{ℤ, natAbs, _+ℤ_, _*ℤ_}
+use lib.ListN.{length}
 use Rattle.definitions.specs.Words.{part}
 use Rattle.definitions.specs.Layout.{parts}
 use Rattle.definitions.specs.Refusals.{yearLimit, partLimit}
@@ -15,6 +16,7 @@ use Rattle.chain.specs.Fitting.{Fitting, Inside, rowLimit}
 
 pub record Follows (last : ℕ) (A v : List ℤ) (k : ℕ) (d : ℤ) : Type 0 where
   pub years : last ≤ yearLimit
+  pub long : length v ≡ 31
   pub below : k < parts last
   pub column : (l : ℕ) → l < parts last → natAbs (cell A l k) ≤ rowLimit
   pub change : natAbs d ≤ 2 * partLimit

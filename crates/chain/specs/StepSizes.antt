@@ -90,9 +90,10 @@ module _ {last : ℕ} {A : List ℤ} {w : Working} {k : ℕ} (h : Steps last A w
         by-place i i-below (no apart) = omega (arith, ap natAbs (getD-set-other (w .mean) k i (stepped A w k) (pos 0) apart), h .inside .small i i-below)
 
     -- d and z are the change and the part as the code has them
-    pub follows : {d : ℤ} → d ≡ stepped A w k -ℤ part (w .mean) k → Follows last A (w .residues) k d
-    follows d-is = subst (Follows last A (w .residues) k) (sym d-is) (record {
+    pub follows : length (w .residues) ≡ 31 → {d : ℤ} → d ≡ stepped A w k -ℤ part (w .mean) k → Follows last A (w .residues) k d
+    follows residues-long d-is = subst (Follows last A (w .residues) k) (sym d-is) (record {
       years = last-small;
+      long = residues-long;
       below = h .below;
       column = λ l l-below. cell-fits last A (heldRightHand last A w) held-fits l k l-below (h .below);
       change = change-small;

@@ -28,10 +28,6 @@ pub record Sweeping (last : ℕ) (A : List ℤ) (w : Working) (k : ℕ) (r : Wor
   pub residues : held last A r ≡ held last A w
   pub inside : Inside (parts last) (r .mean)
 
--- the same part in other words
-pub sweeping-at : {last : ℕ} {A : List ℤ} {w : Working} {k i : ℕ} {r : Working} → k ≡ i → Sweeping last A w k r → Sweeping last A w i r
-sweeping-at {last} {A} {w} {r = r} same h = subst (λ k. Sweeping last A w k r) same h
-
 module _ {last : ℕ} {A : List ℤ} {w : Working} (h : OfSystem last A w) where
   pub parts-below : parts last ≤ 31
   unfolding held

@@ -30,44 +30,40 @@ fn brought_back(z: i64) -> i64
     }
 }
 
-// The residues after part k has changed: column k of A times the change is added.
-fn followed(
-    last: usize,
-    matrix: &[i64; 961],
-    residues: [i64; 31],
-    k: usize,
-    change: i64,
-) -> [i64; 31]
-    requires { ⌜ Follows last (now matrix) residues k change ⌝ }
-    ensures { λ r. ⌜ Followed last (now (matrix .entry)) residues k change r ⌝ }
+// Part k has changed, and the residues follow: column k of A times the change is added.
+fn follow(last: usize, matrix: &[i64; 961], residues: &mut [i64; 31], k: usize, change: i64)
+    requires { ⌜ Follows last (now matrix) (now residues) k change ⌝ }
+    ensures { λ _. ⌜ Followed last (now (matrix .entry)) (now (residues .entry)) k change (now (residues .exit)) ⌝ }
 {
     if change == 0 {
-        return residues;
+        return;
     }
     let parts = 2 * last + 1;
-    let mut moved = residues;
     let mut l = 0;
     while l < parts {
-        moved[l] = moved[l] + matrix[31 * l + k] * change;
+        residues[l] = residues[l] + matrix[31 * l + k] * change;
         l += 1;
     }
-    moved
 }
 
 // Part k changes by floor((A_kk − 2·residue) / (2·A_kk)) and is brought back; residues follow.
-pub fn step(last: usize, matrix: &[i64; 961], working: Working, k: usize) -> Working
+fn step(last: usize, matrix: &[i64; 961], working: Working, k: usize) -> Working
     requires { ⌜ Steps last (now matrix) working k ⌝ }
     ensures { λ r. ⌜ Stepped last (now (matrix .entry)) working k r ⌝ }
 {
-    let mut mean = working.mean;
-    let residues = working.residues;
+    let mut after = working;
     let diagonal = matrix[31 * k + k];
-    let old = mean[k];
-    let fresh = brought_back(old + floor(diagonal - 2 * residues[k], 2 * diagonal));
-    mean[k] = fresh;
-    let moved = followed(last, matrix, residues, k, fresh - old);
-    Working {
-        mean,
-        residues: moved,
-    }
+    let old = after.mean[k];
+    let fresh = brought_back(old + floor(diagonal - 2 * after.residues[k], 2 * diagonal));
+    after.mean[k] = fresh;
+    follow(last, matrix, &mut after.residues, k, fresh - old);
+    after
+}
+
+// The pair stepped where it is held.
+pub fn step_in(working: &mut Working, last: usize, matrix: &[i64; 961], k: usize)
+    requires { ⌜ Steps last (now matrix) (now working) k ⌝ }
+    ensures { λ _. ⌜ Stepped last (now (matrix .entry)) (now (working .entry)) k (now (working .exit)) ⌝ }
+{
+    *working = step(last, matrix, *working, k);
 }

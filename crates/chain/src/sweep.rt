@@ -4,7 +4,7 @@ ghost use Rattle.chain.specs.Arrays.{figuresAt};
 ghost use Rattle.chain.specs.Sweeps.{Sweeps, SweptTo};
 use crate::figures::Working;
 use crate::judge::passes;
-use crate::step::step;
+use crate::step::step_in;
 
 const SWEEP_LIMIT: u64 = 4096;
 
@@ -22,10 +22,10 @@ pub fn one_sweep(last: usize, matrix: &[i64; 961], working: Working) -> Working
 {
     let parts = 2 * last + 1;
     let mut current = working;
-    let mut left = parts;
-    while 0 < left {
-        current = step(last, matrix, current, parts - left);
-        left -= 1;
+    let mut k = 0;
+    while k < parts {
+        step_in(&mut current, last, matrix, k);
+        k += 1;
     }
     current
 }

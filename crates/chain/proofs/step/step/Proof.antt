@@ -71,78 +71,80 @@ module _ {last : ℕ} {A : List ℤ} {w : Working} {k : ℕ} (h : Steps last A w
       change-kept = kept w64 change (omega (arith, change-small h))
 
 -- the mean's array has 31 numbers
-mean-long : (c : tie.After-brought-back) → parts (c .before .before .before .before .before .before .before .args .last) ≤ length (c .before .before .before .before .before .before .before .args .working .mean)
+mean-long : (c : tie.After-brought-back) → parts (c .before .before .before .before .before .args .last) ≤ length (c .before .before .before .before .before .args .working .mean)
 mean-long c =
-    let s = c .before .before .before .before .before .before .before in
+    let s = c .before .before .before .before .before in
     let long : length (s .args .working .mean) ≡ 31 = search needs in
     omega (arith, parts-below (s .pre))
 
 mul-diagonal : tie.Need-mul-diagonal
-mul-diagonal c = omega (arith, index-below (c .before .before .pre))
+mul-diagonal c = omega (arith, index-below (c .pre))
 
 add-diagonal : tie.Need-add-diagonal
-add-diagonal c = omega (arith, index-below (c .before .before .pre))
+add-diagonal c = omega (arith, index-below (c .pre))
 
 mul-diagonal-2 : tie.Need-mul-diagonal-2
-mul-diagonal-2 c = omega (arith, index-below (c .before .before .pre))
+mul-diagonal-2 c = omega (arith, index-below (c .pre))
 
 element-copy-out-diagonal : tie.Need-element-copy-out-diagonal
-element-copy-out-diagonal c = omega (arith, index-below (c .before .before .pre))
+element-copy-out-diagonal c = omega (arith, index-below (c .pre))
 
 mul-old : tie.Need-mul-old
-mul-old c = omega (arith, index-below (c .before .before .before .pre))
+mul-old c = omega (arith, index-below (c .before .pre))
 
-array-copy-out-old : tie.Need-array-copy-out-old
-array-copy-out-old c = omega (arith, index-below (c .before .before .before .pre))
+element-copy-out-old : tie.Need-element-copy-out-old
+element-copy-out-old c = omega (arith, index-below (c .before .pre))
 
 mul-floor : tie.Need-mul-floor
-mul-floor c = omega (arith, index-below (c .before .before .before .before .pre))
+mul-floor c = omega (arith, index-below (c .before .before .pre))
 
-array-copy-out-floor : tie.Need-array-copy-out-floor
-array-copy-out-floor c = omega (arith, index-below (c .before .before .before .before .pre))
+element-copy-out-floor : tie.Need-element-copy-out-floor
+element-copy-out-floor c = omega (arith, index-below (c .before .before .pre))
 
 mul-floor-2 : tie.Need-mul-floor-2
-mul-floor-2 c = let h = c .before .before .before .before .before .pre in fits (doubled h) (omega (arith, doubled-small h))
+mul-floor-2 c = let h = c .before .before .before .pre in fits (doubled h) (omega (arith, doubled-small h))
 
 sub-floor : tie.Need-sub-floor
-sub-floor c = let h = c .before .before .before .before .before .pre in fits (dividend h) (omega (arith, dividend-small h))
+sub-floor c = let h = c .before .before .before .pre in fits (dividend h) (omega (arith, dividend-small h))
 
 mul-floor-3 : tie.Need-mul-floor-3
-mul-floor-3 c = let h = c .before .before .before .before .before .pre in fits (divisor h) (omega (arith, divisor-small h))
+mul-floor-3 c = let h = c .before .before .before .pre in fits (divisor h) (omega (arith, divisor-small h))
 
 floor-requires : tie.Need-floor-requires
-floor-requires c κs = divisor-positive (c .before .before .before .before .before .pre)
+floor-requires c κs = divisor-positive (c .before .before .before .pre)
 
 add-brought-back : tie.Need-add-brought-back
-add-brought-back c = let h = c .before .before .before .before .before .before .pre in fits (moved h (c .floor .result) (c .floor .ensures)) (moved-small h _)
+add-brought-back c = let h = c .before .before .before .before .pre in fits (moved h (c .floor .result) (c .floor .ensures)) (moved-small h _)
 
 brought-back-requires : tie.Need-brought-back-requires
 brought-back-requires c κs = search needs
 
-mul-mean : tie.Need-mul-mean
-mul-mean c = omega (arith, index-below (c .before .before .before .before .before .before .before .pre))
+mul-fresh : tie.Need-mul-fresh
+mul-fresh c = omega (arith, index-below (c .before .before .before .before .before .pre))
 
-array-set-from-mean : tie.Need-array-set-from-mean
-array-set-from-mean c = omega (arith, index-below (c .before .before .before .before .before .before .before .pre))
+element-set-from-fresh : tie.Need-element-set-from-fresh
+element-set-from-fresh c = omega (arith, index-below (c .before .before .before .before .before .pre))
 
-sub-followed : tie.Need-sub-followed
-sub-followed c =
-    let h = c .before .before .before .before .before .before .before .pre in
-    fits (change h (c .before .floor .result) (c .before .floor .ensures) (c .brought-back .result) (c .brought-back .ensures)) (omega (arith, change-small h))
+sub-follow : tie.Need-sub-follow
+sub-follow c =
+    let b = c .before in
+    let h = b .before .before .before .before .before .pre in
+    fits (change h (b .before .floor .result) (b .before .floor .ensures) (b .brought-back .result) (b .brought-back .ensures)) (omega (arith, change-small h))
 
-followed-requires : tie.Need-followed-requires
-followed-requires c κs =
-    let s = c .before .before .before .before .before .before .before in
-    follows (s .pre) (mean-long c) (change-kept (s .pre) (c .before .floor .result) (c .before .floor .ensures) (c .brought-back .result) (c .brought-back .ensures))
+follow-requires : tie.Need-follow-requires
+follow-requires c κs =
+    let b = c .before in
+    let s = b .before .before .before .before .before in
+    follows (s .pre) (mean-long b) (search needs) (change-kept (s .pre) (b .before .floor .result) (b .before .floor .ensures) (b .brought-back .result) (b .brought-back .ensures))
 
 returns : tie.Need-returns
 returns c =
-    let b = c .before in
-    let h = b .before .before .before .before .before .before .before .pre in
+    let b = c .before .before in
+    let h = b .before .before .before .before .before .pre in
     done h (mean-long b)
     (fresh-kept h (b .before .floor .result) (b .before .floor .ensures) (b .brought-back .result) (b .brought-back .ensures))
     (change-kept h (b .before .floor .result) (b .before .floor .ensures) (b .brought-back .result) (b .brought-back .ensures))
-    (c .followed .result) (c .followed .ensures)
+    _ (c .follow .ensures)
 
 pub step-spec : {M : Type 1} → statement M
 step-spec =
@@ -153,17 +155,17 @@ step-spec =
     mul-diagonal-2
     element-copy-out-diagonal
     mul-old
-    array-copy-out-old
+    element-copy-out-old
     mul-floor
-    array-copy-out-floor
+    element-copy-out-floor
     mul-floor-2
     sub-floor
     mul-floor-3
     floor-requires
     add-brought-back
     brought-back-requires
-    mul-mean
-    array-set-from-mean
-    sub-followed
-    followed-requires
+    mul-fresh
+    element-set-from-fresh
+    sub-follow
+    follow-requires
     returns)

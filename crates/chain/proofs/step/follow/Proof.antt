@@ -4,7 +4,6 @@ use mathlib.Core.List.{List}
 use mathlib.Core.Path.{_≡_, refl, sym, ap, ap₂, _∙_}
 use native.Mathlib.Nat.{le-refl}
 use native.Mathlib.Omega.{arith}
-use borrow.Author.Needs.{needs}
 use lib.IntN.{ℤ, pos, natAbs, _+ℤ_, _*ℤ_, *ℤ-zero, +ℤ-idr}
 use lib.Signed.{mag}
 use mir.Syntax.{w64}
@@ -17,8 +16,8 @@ use Rattle.chain.specs.Arrays.{cell}
 use Rattle.chain.specs.Bits.{stored, same}
 use Rattle.chain.specs.Step.{Follows, Followed}
 use Rattle.chain.specs.Turned.{Turned, turned-none, turned-next}
-use Rattle.chain.proofs.step.followed.Statement.{statement}
-use Rattle.chain.proofs.step.followed.Tie as tie
+use Rattle.chain.proofs.step.follow.Statement.{statement}
+use Rattle.chain.proofs.step.follow.Tie as tie
 
 -- one residue, as the code reads and stores it: x is what stands in the array, y the number of the matrix
 module _ {last : ℕ} {A v : List ℤ} {k : ℕ} {d : ℤ} (h : Follows last A v k d) (f : SFits w64 d) (l : ℕ) (below : l < parts last) (x : ℤ)
@@ -44,11 +43,11 @@ unchanged {last} {A} {v} {k} {d} e = record {
 }
 
 abbrev Inv-loop : tie.InvT-loop
-Inv-loop last matrix k change parts moved₀ l₀ moved l =
-    (l ≤ parts) × Turned l (λ i. part moved₀ i +ℤ cell matrix i k *ℤ toZ w64 change) (part moved₀) moved
+Inv-loop last matrix residues₀ k change parts l₀ residues l =
+    (l ≤ parts) × Turned l (λ i. part residues₀ i +ℤ cell matrix i k *ℤ toZ w64 change) (part residues₀) residues
 
 abbrev μ-loop : tie.MeasureT-loop
-μ-loop last matrix k change parts moved₀ l₀ moved l = parts - l
+μ-loop last matrix residues₀ k change parts l₀ residues l = parts - l
 
 returns : tie.Need-returns Inv-loop μ-loop
 returns c = unchanged (sym (toZ-ofZ (c .before .fits .change)) ∙ ap (toZ w64) (c .if1 .taken))
@@ -60,49 +59,49 @@ add-parts : tie.Need-add-parts Inv-loop μ-loop
 add-parts c = omega (arith, c .before .pre .years)
 
 loop-holds : tie.Need-loop-holds Inv-loop μ-loop
-loop-holds c = (omega arith, turned-none (search needs) (λ i. refl))
+loop-holds c = (omega arith, turned-none (c .before .pre .long) (λ i. refl))
 
-mul-moved : tie.Need-mul-moved Inv-loop μ-loop
-mul-moved c = omega arith
+mul-residues : tie.Need-mul-residues Inv-loop μ-loop
+mul-residues c = omega arith
 
-array-copy-out-moved : tie.Need-array-copy-out-moved Inv-loop μ-loop
-array-copy-out-moved c = omega arith
+element-copy-out-residues : tie.Need-element-copy-out-residues Inv-loop μ-loop
+element-copy-out-residues c = omega arith
 
-mul-moved-2 : tie.Need-mul-moved-2 Inv-loop μ-loop
-mul-moved-2 c = omega arith
+mul-residues-2 : tie.Need-mul-residues-2 Inv-loop μ-loop
+mul-residues-2 c = omega arith
 
-add-moved : tie.Need-add-moved Inv-loop μ-loop
-add-moved c = omega arith
+add-residues : tie.Need-add-residues Inv-loop μ-loop
+add-residues c = omega arith
 
-mul-moved-3 : tie.Need-mul-moved-3 Inv-loop μ-loop
-mul-moved-3 c = omega arith
+mul-residues-3 : tie.Need-mul-residues-3 Inv-loop μ-loop
+mul-residues-3 c = omega arith
 
-element-copy-out-moved : tie.Need-element-copy-out-moved Inv-loop μ-loop
-element-copy-out-moved c = omega arith
+element-copy-out-residues-2 : tie.Need-element-copy-out-residues-2 Inv-loop μ-loop
+element-copy-out-residues-2 c = omega arith
 
-mul-moved-4 : tie.Need-mul-moved-4 Inv-loop μ-loop
-mul-moved-4 c =
+mul-residues-4 : tie.Need-mul-residues-4 Inv-loop μ-loop
+mul-residues-4 c =
     let at = c .before .before .before in
     let s = at .before .before in
     let below = c .before .before .loop-test .taken in
-    let x = part (at .loop .moved) (at .loop .l) in
+    let x = part (at .loop .residues) (at .loop .l) in
     let old = at .loop .inv .1 .rest (at .loop .l) (le-refl (at .loop .l)) in
-    fits (product (s .pre) (s .fits .change) (at .loop .l) below x (c .before .moved .given) old (c .moved2 .given)) (product-small (s .pre) (s .fits .change) (at .loop .l) below x (c .before .moved .given) old (c .moved2 .given))
+    fits (product (s .pre) (s .fits .change) (at .loop .l) below x (c .before .residues .given) old (c .residues2 .given)) (product-small (s .pre) (s .fits .change) (at .loop .l) below x (c .before .residues .given) old (c .residues2 .given))
 
-add-moved-2 : tie.Need-add-moved-2 Inv-loop μ-loop
-add-moved-2 c =
+add-residues-2 : tie.Need-add-residues-2 Inv-loop μ-loop
+add-residues-2 c =
     let at = c .before .before .before in
     let s = at .before .before in
     let below = c .before .before .loop-test .taken in
-    let x = part (at .loop .moved) (at .loop .l) in
+    let x = part (at .loop .residues) (at .loop .l) in
     let old = at .loop .inv .1 .rest (at .loop .l) (le-refl (at .loop .l)) in
-    fits (total (s .pre) (s .fits .change) (at .loop .l) below x (c .before .moved .given) old (c .moved2 .given)) (s .pre .sums (at .loop .l) below)
+    fits (total (s .pre) (s .fits .change) (at .loop .l) below x (c .before .residues .given) old (c .residues2 .given)) (s .pre .sums (at .loop .l) below)
 
-mul-moved-5 : tie.Need-mul-moved-5 Inv-loop μ-loop
-mul-moved-5 c = omega arith
+mul-t23 : tie.Need-mul-t23 Inv-loop μ-loop
+mul-t23 c = omega arith
 
-array-set-from-moved : tie.Need-array-set-from-moved Inv-loop μ-loop
-array-set-from-moved c = omega arith
+element-set-from-residues : tie.Need-element-set-from-residues Inv-loop μ-loop
+element-set-from-residues c = omega arith
 
 add-l : tie.Need-add-l Inv-loop μ-loop
 add-l c = omega arith
@@ -115,21 +114,21 @@ loop-again c =
     let at = c .before .before .before in
     let s = at .before .before in
     let below = c .before .before .loop-test .taken in
-    let x = part (at .loop .moved) (at .loop .l) in
+    let x = part (at .loop .residues) (at .loop .l) in
     let old = at .loop .inv .1 .rest (at .loop .l) (le-refl (at .loop .l)) in
-    (omega arith, turned-next (at .loop .inv .1) (omega arith) (total-kept (s .pre) (s .fits .change) (at .loop .l) below x (c .before .moved .given) old (c .moved2 .given)))
+    (omega arith, turned-next (at .loop .inv .1) (omega arith) (total-kept (s .pre) (s .fits .change) (at .loop .l) below x (c .before .residues .given) old (c .residues2 .given)))
 
 returns-2 : tie.Need-returns-2 Inv-loop μ-loop
 returns-2 c =
     let at = c .before in
     let s = at .before .before in
     record {
-      at = λ l below. at .loop .inv .1 .front l (omega arith) ∙ ap (λ d. part (s .args .residues) l +ℤ cell (s .args .matrix .now) l (s .args .k) *ℤ d) (toZ-ofZ (s .fits .change));
+      at = λ l below. at .loop .inv .1 .front l (omega arith) ∙ ap (λ d. part (s .args .residues .now) l +ℤ cell (s .args .matrix .now) l (s .args .k) *ℤ d) (toZ-ofZ (s .fits .change));
       behind = λ l from. at .loop .inv .1 .rest l (omega arith);
     }
 
-pub followed-spec : {M : Type 1} → statement M
-followed-spec =
+pub follow-spec : {M : Type 1} → statement M
+follow-spec =
     tie.close
     (tie.spec
     Inv-loop
@@ -138,16 +137,16 @@ followed-spec =
     mul-parts
     add-parts
     loop-holds
-    mul-moved
-    array-copy-out-moved
-    mul-moved-2
-    add-moved
-    mul-moved-3
-    element-copy-out-moved
-    mul-moved-4
-    add-moved-2
-    mul-moved-5
-    array-set-from-moved
+    mul-residues
+    element-copy-out-residues
+    mul-residues-2
+    add-residues
+    mul-residues-3
+    element-copy-out-residues-2
+    mul-residues-4
+    add-residues-2
+    mul-t23
+    element-set-from-residues
     add-l
     loop-less
     loop-again
