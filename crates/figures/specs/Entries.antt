@@ -3,27 +3,22 @@ use Prim.Native.Nat.{ℕ, _+_, _*_, _^_, _≤_, _<_, min}
 use mathlib.Core.Path.{_≡_}
 use mathlib.Core.List.{List}
 use lib.Dec.{eqb}
-use lib.IntN.{ℤ, pos, natAbs, _+ℤ_, _*ℤ_}
+use lib.IntN.{ℤ, pos, negℤ, natAbs, _+ℤ_, _*ℤ_}
 use lib.ListN.{length}
 use Rattle.integers.specs.SumRange.{only}
 use Rattle.definitions.specs.Words.{part}
 use Rattle.definitions.specs.Layout.{parts}
 use Rattle.definitions.specs.Refusals.{yearLimit}
-use Rattle.definitions.specs.Matrix.{partOf}
+use Rattle.definitions.specs.Matrix.{Part, Φ, Ψ, partOf}
 use Rattle.laws.specs.Ranks.{rankOf, signOf}
 use Rattle.figures.specs.Weights.{at}
 
-pub record OfShare (shared : ℤ) (last k l : ℕ) : Type 0 where
-  pub small : natAbs shared < 2 ^ 40
-  pub few : last ≤ yearLimit
-  pub row : k < parts last
-  pub column : l < parts last
+-- the matrix by ranks, of arrays: what two parts share, and on the diagonal the own weight besides
+abbrev pub shareOf : List ℤ → ℕ → ℕ → ℕ → ℤ
+shareOf shares J k l = signOf (partOf J k) *ℤ signOf (partOf J l) *ℤ part shares (min (rankOf (partOf J k)) (rankOf (partOf J l)))
 
--- the matrix by ranks, of arrays
 unfoldable pub entryOf : List ℕ → List ℤ → ℕ → ℕ → ℕ → ℤ
-entryOf own shares J k l =
-    only (eqb k l) (pos (at own k))
-    +ℤ signOf (partOf J k) *ℤ signOf (partOf J l) *ℤ part shares (min (rankOf (partOf J k)) (rankOf (partOf J l)))
+entryOf own shares J k l = only (eqb k l) (pos (at own k)) +ℤ shareOf shares J k l
 
 pub record OfMatrix (own : List ℕ) (shares : List ℤ) (last : ℕ) : Type 0 where
   pub few : last ≤ yearLimit
@@ -34,23 +29,54 @@ pub record OfRow (own : List ℕ) (shares : List ℤ) (last k : ℕ) : Type 0 wh
   pub of-matrix : OfMatrix own shares last
   pub row : k < parts last
 
-pub record OfEntry (own : List ℕ) (shares : List ℤ) (last k l : ℕ) : Type 0 where
-  pub of-row : OfRow own shares last k
-  pub column : l < parts last
+-- n cells of a flat matrix from `at` on are those of f, and the cells before them are as they were
+pub record Stretch (n at : ℕ) (f : ℕ → ℤ) (before m : List ℤ) : Type 0 where
+  pub long : length m ≡ 961
+  pub there : (i : ℕ) → i < n → part m (at + i) ≡ f i
+  pub earlier : (i : ℕ) → i < at → part m i ≡ part before i
+
+-- what is shared, with its sign turned
+pub record OfTurned (shares : List ℤ) (last : ℕ) : Type 0 where
+  pub few : last ≤ yearLimit
+  pub small : (n : ℕ) → n ≤ last → natAbs (part shares n) < 2 ^ 40
+
+pub record Turned (shares : List ℤ) (last : ℕ) (r : List ℤ) : Type 0 where
+  pub turns : (n : ℕ) → n ≤ last → part r n ≡ negℤ (part shares n)
+
+-- by a part of one rank, with parts whose ranks go up
+abbrev pub runOf : List ℤ → ℕ → ℕ → ℕ → ℤ
+runOf shares rank first i = part shares (min rank (first + i))
+
+pub record OfRun (m shares : List ℤ) (rank at first count : ℕ) : Type 0 where
+  pub long : length m ≡ 961
+  pub room : at + count ≤ 961
+  pub ranked : rank ≤ yearLimit
+  pub from : first ≤ 1
+  pub small : (n : ℕ) → n ≤ rank → natAbs (part shares n) < 2 ^ 40
+
+-- by part k with part l, from the sums signed for a Φ and for a Ψ
+abbrev pub ofKind : List ℤ → List ℤ → Part → List ℤ
+ofKind phis psis (Φ j) = phis
+ofKind phis psis (Ψ j) = psis
+
+unfoldable pub sharedBy : List ℤ → List ℤ → ℕ → ℕ → ℕ → ℤ
+sharedBy phis psis J k l = part (ofKind phis psis (partOf J l)) (min (rankOf (partOf J k)) (rankOf (partOf J l)))
+
+pub record OfShares (m phis psis : List ℤ) (last k : ℕ) : Type 0 where
+  pub long : length m ≡ 961
+  pub few : last ≤ yearLimit
+  pub row : k < parts last
+  pub phis-small : (n : ℕ) → n ≤ last → natAbs (part phis n) < 2 ^ 40
+  pub psis-small : (n : ℕ) → n ≤ last → natAbs (part psis n) < 2 ^ 40
 
 -- a matrix whose row is to be filled
-pub record OfFill (m : List ℤ) (own : List ℕ) (shares : List ℤ) (last k : ℕ) : Type 0 where
+pub record OfFill (m : List ℤ) (own : List ℕ) (shares turned : List ℤ) (last k : ℕ) : Type 0 where
   pub long : length m ≡ 961
   pub of-row : OfRow own shares last k
-
--- columns below n of row k are there, and the rows before it are as they were
-pub record RowTo (n : ℕ) (before : List ℤ) (own : List ℕ) (shares : List ℤ) (last k : ℕ) (m : List ℤ) : Type 0 where
-  pub long : length m ≡ 961
-  pub there : (l : ℕ) → l < n → part m (31 * k + l) ≡ entryOf own shares last k l
-  pub earlier : (i : ℕ) → i < 31 * k → part m i ≡ part before i
+  pub of-turned : Turned shares last turned
 
 pub record RowOf (before : List ℤ) (own : List ℕ) (shares : List ℤ) (last k : ℕ) (m : List ℤ) : Type 0 where
-  pub whole : RowTo (parts last) before own shares last k m
+  pub whole : Stretch (parts last) (31 * k) (entryOf own shares last k) before m
 
 -- rows below n
 pub record RowsTo (n : ℕ) (own : List ℕ) (shares : List ℤ) (last : ℕ) (m : List ℤ) : Type 0 where

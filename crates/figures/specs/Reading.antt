@@ -8,6 +8,7 @@ use Rattle.definitions.specs.Layout.{Bytes, lastYear, parts, cells, varianceOf,
 use Rattle.definitions.specs.Logarithm.{logarithm}
 use Rattle.definitions.specs.Refusals.{yearLimit}
 use Rattle.definitions.specs.Weight.{weight}
+use Rattle.layout.specs.Checks.{Whole}
 use Rattle.figures.specs.Filled.{Filled}
 
 pub record ColumnWeights (f : Bytes) (r : List ℕ) : Type 0 where
@@ -19,8 +20,18 @@ pub record PriorWeights (f : Bytes) (r : List ℕ) : Type 0 where
 pub record PriorMeans (f : Bytes) (r : List ℤ) : Type 0 where
   pub filled : Filled 31 (parts (lastYear f)) (pos 0) (priorMean f) r
 
+-- the logarithms of the cells below n
+abbrev pub CellsTo : ℕ → Bytes → List ℤ → Type 0
+CellsTo n f r = Filled 272 n (pos 0) (λ c. pos (logarithm (amount f c))) r
+
+-- four cells more are to be filled
+pub record OfFour (f : Bytes) (c : ℕ) (logs : List ℤ) : Type 0 where
+  pub whole : Whole f
+  pub more : c + 4 ≤ 2 * cells (lastYear f)
+  pub so-far : CellsTo c f logs
+
 pub record Logarithms (f : Bytes) (r : List ℤ) : Type 0 where
-  pub filled : Filled 272 (2 * cells (lastYear f)) (pos 0) (λ c. pos (logarithm (amount f c))) r
+  pub filled : CellsTo (2 * cells (lastYear f)) f r
 
 -- the two blocks of at most 16 years have at most 272 cells
 pub cells-few : (last : ℕ) → last ≤ yearLimit → 2 * cells last ≤ 272

@@ -1,11 +1,23 @@
 // The precision matrix, flat: row k, column l at 31·k + l, filled from the own weights and the sums of g.
 ghost use mathlib.Core.Path.{_≡_};
-ghost use lib.IntN.{_*ℤ_};
-ghost use Prim.Native.Nat.{min};
-ghost use Rattle.laws.specs.Ranks.{rankOf, signOf};
+ghost use Prim.Native.Nat.{_*_, min};
+ghost use Rattle.laws.specs.Ranks.{rankOf};
+ghost use Rattle.definitions.specs.Layout.{parts};
 ghost use Rattle.definitions.specs.Matrix.{partOf};
 ghost use Rattle.figures.specs.Weights.{OfPart};
-ghost use Rattle.figures.specs.Entries.{OfShare, OfEntry, entryOf, OfFill, RowOf, OfMatrix, MatrixOf};
+ghost use Rattle.figures.specs.Entries.{
+  OfTurned,
+  Turned,
+  OfRun,
+  runOf,
+  Stretch,
+  OfShares,
+  sharedBy,
+  OfFill,
+  RowOf,
+  OfMatrix,
+  MatrixOf,
+};
 
 // Φ_j has the rank j and Ψ_j the rank j + 1: a part shares in the first g, as many as its rank.
 pub fn rank_of(last: u8, k: usize) -> usize
@@ -22,56 +34,79 @@ fn smaller(a: usize, b: usize) -> usize
     if a < b { a } else { b }
 }
 
-// What two parts share is added between two Φ or two Ψ, and subtracted between a Φ and a Ψ.
-fn signed_share(shared: i64, last: u8, k: usize, l: usize) -> i64
-    requires { ⌜ OfShare shared last k l ⌝ }
-    ensures { λ r. ⌜ r ≡ signOf (partOf last k) *ℤ signOf (partOf last l) *ℤ shared ⌝ }
+// The sums of g with the sign turned: what a Φ and a Ψ share is subtracted.
+fn turned_shares(shares: &[i64; 16], last: u8) -> [i64; 16]
+    requires { ⌜ OfTurned (now shares) last ⌝ }
+    ensures { λ r. ⌜ Turned (now (shares .entry)) last r ⌝ }
+{
+    let count = last as usize + 1;
+    let mut turned = [0i64; 16];
+    let mut n = 0usize;
+    while n < count {
+        let value = -shares[n];
+        turned[n] = value;
+        n += 1;
+    }
+    turned
+}
+
+// `count` cells from `at` on: what a part of this rank shares with parts whose ranks go up from `first`.
+fn fill_run<'a>(
+    matrix: &'a mut [i64; 961],
+    shares: &'a [i64; 16],
+    rank: usize,
+    at: usize,
+    first: usize,
+    count: usize,
+)
+    requires { ⌜ OfRun (now matrix) (now shares) rank at first count ⌝ }
+    ensures { λ r. ⌜ Stretch count at (runOf (now (shares .entry)) rank first) (now (matrix .entry)) (now (matrix .exit)) ⌝ }
+{
+    let mut n = 0usize;
+    while n < count {
+        let value = shares[smaller(rank, first + n)];
+        matrix[at + n] = value;
+        n += 1;
+    }
+}
+
+// Row k, but for the own weight: the sums of g signed for the Φ, then signed for the Ψ. The rows before it stay.
+fn fill_shares<'a>(
+    matrix: &'a mut [i64; 961],
+    phis: &'a [i64; 16],
+    psis: &'a [i64; 16],
+    last: u8,
+    k: usize,
+)
+    requires { ⌜ OfShares (now matrix) (now phis) (now psis) last k ⌝ }
+    ensures { λ r. ⌜ Stretch (parts last) (31 * k) (sharedBy (now (phis .entry)) (now (psis .entry)) last k) (now (matrix .entry)) (now (matrix .exit)) ⌝ }
 {
     let years = last as usize;
-    if k <= years {
-        if l <= years {
-            return shared;
-        }
-        return -shared;
-    }
-    if l <= years {
-        return -shared;
-    }
-    shared
+    let row = 31 * k;
+    let rank = rank_of(last, k);
+    fill_run(matrix, phis, rank, row, 0, years + 1);
+    fill_run(matrix, psis, rank, row + years + 1, 1, years);
 }
 
-// Between two parts: what they share, and on the diagonal the own weight besides.
-fn entry<'a>(own: &'a [u64; 31], shares: &'a [i64; 16], last: u8, k: usize, l: usize) -> i64
-    requires { ⌜ OfEntry (now own) (now shares) last k l ⌝ }
-    ensures { λ r. ⌜ r ≡ entryOf (now (own .entry)) (now (shares .entry)) last k l ⌝ }
-{
-    let n = smaller(rank_of(last, k), rank_of(last, l));
-    let shared = signed_share(shares[n], last, k, l);
-    if k == l {
-        return own[k] as i64 + shared;
-    }
-    shared
-}
-
-// Row k of the matrix; the rows before it stay.
+// Row k of the matrix: what is shared is added between parts of one kind, and the own weight is added on the diagonal.
 fn fill_row<'a>(
     matrix: &'a mut [i64; 961],
     own: &'a [u64; 31],
     shares: &'a [i64; 16],
+    turned: &'a [i64; 16],
     last: u8,
     k: usize,
 )
-    requires { ⌜ OfFill (now matrix) (now own) (now shares) last k ⌝ }
+    requires { ⌜ OfFill (now matrix) (now own) (now shares) (now turned) last k ⌝ }
     ensures { λ r. ⌜ RowOf (now (matrix .entry)) (now (own .entry)) (now (shares .entry)) last k (now (matrix .exit)) ⌝ }
 {
-    let count = 2 * (last as usize) + 1;
-    let row = 31 * k;
-    let mut l = 0usize;
-    while l < count {
-        let value = entry(own, shares, last, k, l);
-        matrix[row + l] = value;
-        l += 1;
+    if k <= last as usize {
+        fill_shares(matrix, shares, turned, last, k);
+    } else {
+        fill_shares(matrix, turned, shares, last, k);
     }
+    let value = own[k] as i64 + matrix[32 * k];
+    matrix[32 * k] = value;
 }
 
 pub fn matrix_of<'a>(own: &'a [u64; 31], shares: &'a [i64; 16], last: u8) -> [i64; 961]
@@ -79,10 +114,11 @@ pub fn matrix_of<'a>(own: &'a [u64; 31], shares: &'a [i64; 16], last: u8) -> [i6
     ensures { λ r. ⌜ MatrixOf (now (own .entry)) (now (shares .entry)) last r ⌝ }
 {
     let count = 2 * (last as usize) + 1;
+    let turned = turned_shares(shares, last);
     let mut matrix = [0i64; 961];
     let mut k = 0usize;
     while k < count {
-        fill_row(&mut matrix, own, shares, last, k);
+        fill_row(&mut matrix, own, shares, &turned, last, k);
         k += 1;
     }
     matrix

@@ -1,6 +1,7 @@
 // The weights, prior means and logarithms of a file, in arrays: each weight and each logarithm is computed once.
+ghost use Prim.Native.Nat.{_+_};
 ghost use Rattle.layout.specs.Checks.{Whole};
-ghost use Rattle.figures.specs.Reading.{ColumnWeights, PriorWeights, PriorMeans, Logarithms};
+ghost use Rattle.figures.specs.Reading.{ColumnWeights, PriorWeights, PriorMeans, CellsTo, OfFour, Logarithms};
 use layout::places::cells_of;
 use layout::places::last_year;
 use layout::places::parts_of;
@@ -8,6 +9,7 @@ use readings::amount_of;
 use readings::prior_mean;
 use readings::prior_variance;
 use readings::variance_of;
+use scales::four_logarithms_of;
 use scales::logarithm_of;
 use scales::weight_of;
 
@@ -59,6 +61,27 @@ pub fn prior_means(file: &[u8]) -> [i64; 31]
     means
 }
 
+// The logarithms of cells c to c + 3, side by side; those before them are there.
+fn four_cells<'a>(logs: &'a mut [i64; 272], file: &'a [u8], c: usize)
+    requires { ⌜ OfFour (now file) c (now logs) ⌝ }
+    ensures { λ r. ⌜ CellsTo (c + 4) (now (file .entry)) (now (logs .exit)) ⌝ }
+{
+    let four = four_logarithms_of(
+        amount_of(file, c),
+        amount_of(file, c + 1),
+        amount_of(file, c + 2),
+        amount_of(file, c + 3),
+    );
+    let first = four.first.0;
+    let second = four.second.0;
+    let third = four.third.0;
+    let fourth = four.fourth.0;
+    logs[c] = first;
+    logs[c + 1] = second;
+    logs[c + 2] = third;
+    logs[c + 3] = fourth;
+}
+
 // Of the amounts, paid block first.
 pub fn logarithms(file: &[u8]) -> [i64; 272]
     requires { ⌜ Whole (now file) ⌝ }
@@ -67,6 +90,10 @@ pub fn logarithms(file: &[u8]) -> [i64; 272]
     let count = 2 * cells_of(last_year(file));
     let mut logs = [0i64; 272];
     let mut c = 0usize;
+    while c + 4 <= count {
+        four_cells(&mut logs, file, c);
+        c += 4;
+    }
     while c < count {
         let log = logarithm_of(amount_of(file, c));
         let ticks = log.0;

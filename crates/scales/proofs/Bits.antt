@@ -1,14 +1,14 @@
 -- The numbers that the logarithm's steps hold: y has 32 bits, and one step more adds one bit to those that were found.
 use mathlib.Core.Path.{_≡_, refl, sym, ap, subst, _∙_}
 use mathlib.Core.Bool.{Bool, true, false, cond}
-use Prim.Native.Nat.{ℕ, suc, _+_, _*_, _-_, _/_, _^_, _≤_, _<_}
-use native.Mathlib.Nat.{le-of-lt, lt-of-le-of-lt, lt-of-lt-of-le, mul-le-mul-left, mul-lt-mul-of-pos-right, pow-suc}
+use Prim.Native.Nat.{ℕ, suc, _+_, _*_, _-_, _/_, _%_, _^_, _≤_, _<_}
+use native.Mathlib.Nat.{le-of-lt, lt-of-le-of-lt, lt-of-lt-of-le, mul-le-mul-left, mul-lt-mul-of-pos-right, mul-assoc, pow-suc}
 use native.Mathlib.Omega.{arith}
 use borrow.Author.Tests.{leb-true, leb-false}
 use lib.Dec.{leb}
-use lib.Pow.{pow-pos, pow-mono, shl-lt, shr-lt}
+use lib.Pow.{pow-pos, pow-mono, pow-add, shl-exact, shl-shr, shr-shr}
 use lib.Count.{leadingZeros, leading-top}
-use Rattle.definitions.specs.Logarithm.{nextBit, nextY, bitsOf}
+use Rattle.definitions.specs.Logarithm.{startFrom, nextBit, nextY, bitsOf}
 
 -- ---- the whole part
 
@@ -23,12 +23,24 @@ module _ (a : ℕ) (positive : 0 < a) (fits : a < 2 ^ 64) where
       let e : suc (t .0) ≡ 63 - leadingZeros 64 a + 1 = omega (arith, t .1) in
       subst (λ n. a < 2 ^ n) e (t .3)
 
--- y fills 32 bits, whichever way it is shifted
-pub shifted-up : (a h : ℕ) → h ≤ 31 → a < 2 ^ (h + 1) → a * 2 ^ (31 - h) < 2 ^ 32
-shifted-up a h le lt = let e : h + 1 + (31 - h) ≡ 32 = omega arith in subst (λ n. a * 2 ^ (31 - h) < 2 ^ n) e (shl-lt (h + 1) (31 - h) lt)
+  -- brought to place 63 it loses no bit
+  pub brought-up : a * 2 ^ leadingZeros 64 a % 2 ^ 64 ≡ a * 2 ^ leadingZeros 64 a
+  brought-up = shl-exact (63 - leadingZeros 64 a + 1) (leadingZeros 64 a) 64 below-next-power (omega (arith, leading-below))
 
-pub shifted-down : (a h : ℕ) → 31 < h → a < 2 ^ (h + 1) → a / 2 ^ (h - 31) < 2 ^ 32
-shifted-down a h gt lt = let e : h + 1 ≡ 32 + (h - 31) = omega arith in shr-lt 32 (h - 31) (subst (λ n. a < 2 ^ n) e lt)
+-- from there, 32 places down: the definition's y, whichever way that has moved the amount
+pub started : (a h zeros : ℕ) → h + zeros ≡ 63 → a * 2 ^ zeros / 2 ^ 32 ≡ startFrom h a
+unfolding startFrom
+started a h zeros e = by-side (leb h 31) refl
+  where
+    by-side : (b : Bool) → leb h 31 ≡ b → a * 2 ^ zeros / 2 ^ 32 ≡ cond b (a * 2 ^ (31 - h)) (a / 2 ^ (h - 31))
+    by-side true t =
+        let up : zeros ≡ 31 - h + 32 = omega (arith, leb-true h 31 t) in
+        ap (λ n. a * n / 2 ^ 32) (ap (λ n. 2 ^ n) up ∙ pow-add 2 (31 - h) 32)
+        ∙ ap (λ n. n / 2 ^ 32) (sym (mul-assoc a (2 ^ (31 - h)) (2 ^ 32)))
+        ∙ shl-shr (a * 2 ^ (31 - h)) 32
+    by-side false t =
+        let down : 32 ≡ zeros + (h - 31) = omega (arith, leb-false h 31 t) in
+        ap (λ n. a * 2 ^ zeros / 2 ^ n) down ∙ sym (shr-shr (a * 2 ^ zeros) zeros (h - 31)) ∙ ap (λ n. n / 2 ^ (h - 31)) (shl-shr a zeros)
 
 -- ---- one squaring
 

@@ -4,7 +4,7 @@ ghost use Prim.Native.Nat.{_<_, _^_};
 ghost use lib.IntN.{pos};
 ghost use Rattle.definitions.specs.Logarithm.{logarithm};
 ghost use Rattle.definitions.specs.Weight.{weight};
-ghost use Rattle.scales.specs.Squaring.{Start, Next};
+ghost use Rattle.scales.specs.Squaring.{Start, Next, FourLogarithms};
 
 // A cumulative amount of a triangle.
 pub struct Amount(pub u64);
@@ -18,34 +18,40 @@ pub struct Variance(pub u64);
 // The weight of a variance.
 pub struct Weight(pub u64);
 
+// Four logarithms.
+pub struct FourTicks {
+    pub first: Ticks,
+    pub second: Ticks,
+    pub third: Ticks,
+    pub fourth: Ticks,
+}
+
+// Each squaring finds one bit of the logarithm behind its whole part.
+const SQUARINGS: u32 = 20;
+
 // What is between two squarings: y, and the logarithm's bits so far, the whole part first.
 struct Squaring {
     y: u64,
-    bits: u64,
+    bits: u32,
 }
 
-// The whole part, and y below 2^32.
+// The whole part, and y below 2^32: the highest one bit is brought to place 63, and from there to 31. Of 0 both are 0.
 fn start(a: u64) -> Squaring
-    requires { ⌜ 0 < a ⌝ }
     ensures { λ r. ⌜ Start a r ⌝ }
 {
-    let h = 63 - u64::leading_zeros(a);
-    if h <= 31 {
-        Squaring {
-            y: a << (31 - h),
-            bits: h as u64,
-        }
-    } else {
-        Squaring {
-            y: a >> (h - 31),
-            bits: h as u64,
-        }
+    if a == 0 {
+        return Squaring { y: 0, bits: 0 };
+    }
+    let zeros = u64::leading_zeros(a);
+    Squaring {
+        y: (a << zeros) >> 32,
+        bits: 63 - zeros,
     }
 }
 
 // One squaring. The square is at least 2^63 exactly if its highest bit is one, so that no branch is needed.
 fn squared(s: Squaring) -> Squaring
-    requires { ⌜ (s .y < 2 ^ 32) × (s .bits < 2 ^ 32) ⌝ }
+    requires { ⌜ (s .y < 2 ^ 32) × (s .bits < 2 ^ 31) ⌝ }
     ensures { λ r. ⌜ Next s r ⌝ }
 {
     let y = s.y;
@@ -53,7 +59,7 @@ fn squared(s: Squaring) -> Squaring
     let bit = square >> 63;
     Squaring {
         y: square >> (31 + bit),
-        bits: 2 * s.bits + bit,
+        bits: 2 * s.bits + bit as u32,
     }
 }
 
@@ -61,17 +67,37 @@ fn squared(s: Squaring) -> Squaring
 pub fn logarithm_of(a: Amount) -> Ticks
     ensures { λ r. ⌜ r .0 ≡ pos (logarithm (a .0)) ⌝ }
 {
-    let amount = a.0;
-    if amount == 0 {
-        return Ticks(0);
-    }
-    let mut s = start(amount);
+    let mut s = start(a.0);
     let mut i = 0u32;
-    while i < 20 {
+    while i < SQUARINGS {
         s = squared(s);
         i += 1;
     }
     Ticks(s.bits as i64)
+}
+
+// The logarithms of four amounts. A squaring waits for the one before it, so the four are squared side by side.
+pub fn four_logarithms_of(a: Amount, b: Amount, c: Amount, d: Amount) -> FourTicks
+    ensures { λ r. ⌜ FourLogarithms (a .0) (b .0) (c .0) (d .0) r ⌝ }
+{
+    let mut first = start(a.0);
+    let mut second = start(b.0);
+    let mut third = start(c.0);
+    let mut fourth = start(d.0);
+    let mut i = 0u32;
+    while i < SQUARINGS {
+        first = squared(first);
+        second = squared(second);
+        third = squared(third);
+        fourth = squared(fourth);
+        i += 1;
+    }
+    FourTicks {
+        first: Ticks(first.bits as i64),
+        second: Ticks(second.bits as i64),
+        third: Ticks(third.bits as i64),
+        fourth: Ticks(fourth.bits as i64),
+    }
 }
 
 // The weight of a variance: 2^46 / v to the nearest, halves up. It is 0 for 0, and for all above 2^47.

@@ -22,8 +22,11 @@ shr-t6 c = omega (arith, square-below (c .args .s .y) (c .pre .0))
 mul-t7 : tie.Need-mul-t7
 mul-t7 c = search needs
 
-add-t8 : tie.Need-add-t8
-add-t8 c = omega (arith, square-below (c .before .args .s .y) (c .before .pre .0))
+cast-t8 : tie.Need-cast-t8
+cast-t8 c = omega (arith, square-below (c .before .args .s .y) (c .before .pre .0))
+
+add-t9 : tie.Need-add-t9
+add-t9 c = omega (arith, square-below (c .before .args .s .y) (c .before .pre .0))
 
 returns : tie.Need-returns
 unfolding nextBit nextY
@@ -38,4 +41,4 @@ returns c =
     }
 
 pub squared-spec : {M : Type 1} → statement M
-squared-spec = tie.close (tie.spec mul-square add-t5 shr-t6 mul-t7 add-t8 returns)
+squared-spec = tie.close (tie.spec mul-square add-t5 shr-t6 mul-t7 cast-t8 add-t9 returns)

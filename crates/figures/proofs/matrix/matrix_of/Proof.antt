@@ -9,10 +9,10 @@ use Rattle.figures.proofs.matrix.matrix_of.Statement.{statement}
 use Rattle.figures.proofs.matrix.matrix_of.Tie as tie
 
 abbrev Inv-loop : tie.InvT-loop
-Inv-loop own shares last count matrix₀ k₀ matrix k = (k ≤ count) × RowsTo k own shares last matrix
+Inv-loop own shares last count turned matrix₀ k₀ matrix k = (k ≤ count) × RowsTo k own shares last matrix
 
 abbrev μ-loop : tie.MeasureT-loop
-μ-loop own shares last count matrix₀ k₀ matrix k = count - k
+μ-loop own shares last count turned matrix₀ k₀ matrix k = count - k
 
 mul-count : tie.Need-mul-count Inv-loop μ-loop
 mul-count c = omega arith
@@ -20,13 +20,20 @@ mul-count c = omega arith
 add-count : tie.Need-add-count Inv-loop μ-loop
 add-count c = omega arith
 
+turned-shares-requires : tie.Need-turned-shares-requires Inv-loop μ-loop
+turned-shares-requires c κs = record { few = c .pre .few; small = c .pre .shares-small }
+
 loop-holds : tie.Need-loop-holds Inv-loop μ-loop
 loop-holds c = (omega arith, rows-none _ (length-replicate 961 (pos 0)))
 
 fill-row-requires : tie.Need-fill-row-requires Inv-loop μ-loop
 fill-row-requires c κs =
-    let l = c .before .before in
-    record { long = l .loop .inv .1 .long; of-row = record { of-matrix = l .before .pre; row = omega (arith, c .before .loop-test .taken) } }
+    let l = c .before .before .before in
+    record {
+      long = l .loop .inv .1 .long;
+      of-row = record { of-matrix = l .before .before .pre; row = omega (arith, c .before .before .loop-test .taken) };
+      of-turned = l .before .turned-shares .ensures;
+    }
 
 add-k : tie.Need-add-k Inv-loop μ-loop
 add-k c = omega arith
@@ -36,8 +43,8 @@ loop-less c = omega arith
 
 loop-again : tie.Need-loop-again Inv-loop μ-loop
 loop-again c =
-    let l = c .before .before .before in
-    (omega arith, rows-next (l .before .pre .few) (l .loop .inv .1) (c .fill-row .ensures))
+    let l = c .before .before .before .before in
+    (omega arith, rows-next (l .before .before .pre .few) (l .loop .inv .1) (c .fill-row .ensures))
 
 returns : tie.Need-returns Inv-loop μ-loop
 returns c = record { whole = rows-to (omega arith) (c .before .loop .inv .1) }
@@ -50,6 +57,7 @@ matrix-of-spec =
     μ-loop
     mul-count
     add-count
+    turned-shares-requires
     loop-holds
     fill-row-requires
     add-k
