@@ -100,10 +100,10 @@ def half_tick(offset: int) -> File:
 def drawn_file(rng: Random, last: int | None = None) -> File:
     """An accepted file: mild, spread over all magnitudes, or made of the limits only."""
     last = rng.randint(1, 15) if last is None else last
-    return with_same_end(rng.choice((_mild_file, _spread_file, _extreme_file))(rng, last))
+    return with_same_end(rng.choice((mild_file, _spread_file, _extreme_file))(rng, last))
 
 
-def _mild_file(rng: Random, last: int) -> File:
+def mild_file(rng: Random, last: int) -> File:
     """Triangles that grow as a portfolio's do, deviations of some per cent."""
     def grown(columns: int) -> tuple[int, ...]:
         amounts = [rng.randint(500_000, 2_000_000)]
