@@ -1,4 +1,4 @@
--- What the matrix is filled by: rank and sign of a part from its index, rows and columns one after another.
+-- What the matrix is filled by: rank and sign of a part from its index, runs of cells one behind another, rows.
 use Prim.Native.Nat.{ℕ, _+_, _*_, _-_, _^_, _≤_, _<_, min}
 use mathlib.Core.Path.{_≡_, refl, sym, ap, ap₂, subst, _∙_}
 use mathlib.Core.Logic.{_≢_, _⊎_, inl, inr}
@@ -7,8 +7,8 @@ use native.Mathlib.Nat.{eq-or-lt-of-le, zero-add, add-comm}
 use mathlib.Core.Bool.{Bool, true, false}
 use native.Mathlib.Omega.{arith}
 use borrow.Author.Tests.{leb-true, leb-false, eqb-true, eqb-false}
-use lib.Dec.{T, leb, eqb, eqb→eq, eqb-refl, not-T}
-use lib.IntN.{ℤ, pos, negℤ, natAbs, _+ℤ_, _*ℤ_, +ℤ-idl}
+use lib.Dec.{leb, eqb, eqb→eq, eqb-refl, not-T}
+use lib.IntN.{ℤ, pos, natAbs, _+ℤ_, _*ℤ_, +ℤ-idl}
 use lib.ListN.{length, set, length-set}
 use lib.Seq.{getD-set-same, getD-set-other}
 use Rattle.integers.specs.Ring.{*ℤ-idl}

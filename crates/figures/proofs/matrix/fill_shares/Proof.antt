@@ -1,9 +1,8 @@
 -- `figures::matrix::fill_shares` meets its contract: two runs, one behind the other, are the row. Assumes nothing.
 use Prim.Native.Nat.{_≤_}
-use mathlib.Core.Path.{_≡_, _∙_}
 use native.Mathlib.Omega.{arith}
 use denote.Ref.{now}
-use Rattle.laws.specs.Ranks.{rankOf, rank-below}
+use Rattle.laws.specs.Ranks.{rank-below}
 use Rattle.figures.specs.EntryLaws.{stretch-join, stretch-to, run-phi, run-psi}
 use borrow.Author.Needs.{needs}
 use Rattle.figures.proofs.matrix.fill_shares.Statement.{statement}
