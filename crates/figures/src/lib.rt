@@ -1,10 +1,12 @@
 // The figures of an accepted file, each computed once: weights, logarithms, own weights, the precision matrix and the
 // right-hand side. They equal document 01's.
 ghost use mathlib.Core.Path.{_≡_};
-ghost use Rattle.chain.specs.Arrays.{figuresOf};
+ghost use Rattle.chain.specs.Arrays.{figuresAt, figuresOf};
+ghost use Rattle.definitions.specs.Layout.{lastYear, closeness};
+ghost use Rattle.figures.specs.Reading.{PriorMeans};
 ghost use Rattle.definitions.specs.Matrix.{figuresOf as figuresOfFile};
 ghost use Rattle.laws.specs.Accepted.{AcceptedFile};
-use crate::matrix::matrix_of;
+use crate::matrix::fill_matrix;
 use crate::reading::column_weights;
 use crate::reading::logarithms;
 use crate::reading::prior_means;
@@ -14,35 +16,37 @@ use crate::right_hand::right_hand_of;
 use crate::weights::own_weights;
 use crate::weights::ratio_weights;
 use crate::weights::shares;
-use chain::figures::Figures;
 use layout::places::last_year;
-use readings::closeness_of;
 
 pub mod matrix;
 pub mod reading;
 pub mod right_hand;
 pub mod weights;
 
-pub fn figures_of(file: &[u8]) -> Figures
+// The figures, and the prior means, in the arrays that are lent for them.
+pub fn figures_in<'a>(
+    own: &'a mut [u64; 31],
+    matrix: &'a mut [i64; 961],
+    right_hand: &'a mut [i64; 31],
+    mean: &'a mut [i64; 31],
+    file: &'a [u8],
+)
     requires { ⌜ AcceptedFile (now file) ⌝ }
-    ensures { λ r. ⌜ figuresOf r ≡ figuresOfFile (now (file .entry)) ⌝ }
+    ensures { λ _. ⌜ figuresOf (figuresAt (lastYear (now (file .entry))) (closeness (now (file .entry))) (now (own .exit)) (now (matrix .exit)) (now («right_hand» .exit))) ≡ figuresOfFile (now (file .entry)) ⌝ }
+    ensures { λ _. ⌜ PriorMeans (now (file .entry)) (now (mean .exit)) ⌝ }
 {
     let last = last_year(file);
     let columns = column_weights(file);
     let priors = prior_weights(file);
-    let own = own_weights(&columns, &priors, last);
+    let weighed = own_weights(&columns, &priors, last);
     let weights = ratio_weights(file);
     let sums = shares(&weights, last);
     let logs = logarithms(file);
     let means = prior_means(file);
     let ratios = ratio_sums(&weights, &logs, last);
-    let right_hand = right_hand_of(&priors, &means, &columns, &logs, &ratios, last);
-    let matrix = matrix_of(&own, &sums, last);
-    Figures {
-        last: last as usize,
-        closeness: closeness_of(file),
-        own: own,
-        matrix: matrix,
-        right_hand: right_hand,
-    }
+    let targets = right_hand_of(&priors, &means, &columns, &logs, &ratios, last);
+    fill_matrix(matrix, &weighed, &sums, last);
+    *own = weighed;
+    *right_hand = targets;
+    *mean = means;
 }

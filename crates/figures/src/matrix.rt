@@ -109,17 +109,22 @@ fn fill_row<'a>(
     matrix[32 * k] = value;
 }
 
-pub fn matrix_of<'a>(own: &'a [u64; 31], shares: &'a [i64; 16], last: u8) -> [i64; 961]
+// The whole matrix, zeros behind its parts.
+pub fn fill_matrix<'a>(
+    matrix: &'a mut [i64; 961],
+    own: &'a [u64; 31],
+    shares: &'a [i64; 16],
+    last: u8,
+)
     requires { ⌜ OfMatrix (now own) (now shares) last ⌝ }
-    ensures { λ r. ⌜ MatrixOf (now (own .entry)) (now (shares .entry)) last r ⌝ }
+    ensures { λ _. ⌜ MatrixOf (now (own .entry)) (now (shares .entry)) last (now (matrix .exit)) ⌝ }
 {
     let count = 2 * (last as usize) + 1;
     let turned = turned_shares(shares, last);
-    let mut matrix = [0i64; 961];
+    *matrix = [0; 961];
     let mut k = 0usize;
     while k < count {
-        fill_row(&mut matrix, own, shares, &turned, last, k);
+        fill_row(matrix, own, shares, &turned, last, k);
         k += 1;
     }
-    matrix
 }

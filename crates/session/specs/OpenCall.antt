@@ -27,53 +27,12 @@ use Rattle.chain.specs.AcceptedFits.{file-fits}
 use Rattle.chain.specs.Held.{tab-cong}
 use Rattle.figures.specs.Reading.{PriorMeans}
 use Rattle.session.specs.declared.Session.{Session}
-use Rattle.session.specs.declared.answers.OpenAnswer.{OpenAnswer}
-use Rattle.session.specs.declared.answers.OpenAnswer.the-variants.{Opened, Refused}
-use Rattle.session.specs.declared.answers.Opening.{Opening}
+use Rattle.session.specs.declared.answers.OpenAnswer.the-variants.{Opened}
 use Rattle.session.specs.Diagonal.{nonZero, DiagonalOf}
 use Rattle.session.specs.Fitted.{entry-of}
 use Rattle.session.specs.State.{Fits}
 use Rattle.session.specs.Calls.{Opens}
 use Rattle.session.specs.CallLaws.{opens-done}
-
--- ---- the contract
-
--- a session that holds what a file gives
-pub record Fresh (file : Bytes) (t : Session) : Type 0 where
-  pub clears : openCheck file ≡ clear
-  pub fits : Fits t
-  pub figures : figuresOf (t .figures) ≡ D.figuresOf file
-  pub mean : meanOf (t .figures .last) (t .mean) ≡ tabFrom 0 (parts (lastYear file)) (priorMean file)
-  pub none-run : t .total ≡ 0
-
-pub record OpensFresh (file : Bytes) (r : Opening) : Type 0 where
-  pub done : r .answer ≡ Opened → Fresh file (r .session)
-  pub refused : (number place : ℕ) → r .answer ≡ Refused number place → openCheck file ≡ refuses number place
-
-opened-refused : {number place : ℕ} → _≡_ {A = OpenAnswer} Opened (Refused number place) → ⊥
-opened-refused e = let z : _≡_ {A = ℕ} 0 1 = cc in omega arith
-
-same-refusal : {number place n p : ℕ} → _≡_ {A = OpenAnswer} (Refused number place) (Refused n p) → refuses number place ≡ refuses n p
-same-refusal e = cc
-
-pub fresh-refused : (file : Bytes) (number place : ℕ) (t : Session) → openCheck file ≡ refuses number place → OpensFresh file (record { answer = Refused number place; session = t })
-fresh-refused file number place t c = record {
-  done = λ e. absurd (opened-refused (sym e));
-  refused = λ n p e. c ∙ same-refusal e;
-}
-
-pub fresh-opened : (file : Bytes) (t : Session) → Fresh file t → OpensFresh file (record { answer = Opened; session = t })
-fresh-opened file t h = record {
-  done = λ _. h;
-  refused = λ n p e. absurd (opened-refused e);
-}
-
--- ---- an open where no file is open
-
-pub opens-fresh : (s : Session) (file : Bytes) → ¬ Fits s → (t : Session) → Fresh file t → Opens s file (record { answer = Opened; session = t })
-opens-fresh s file closed t h = opens-done s file closed (h .clears) t (h .fits) (h .figures) (h .mean) (h .none-run)
-
--- ---- of a file that the checks let pass
 
 pub file-accepted : (file : Bytes) → fileCheck file ≡ clear → AcceptedFile file
 file-accepted file passed = file-clear file (ap isClear passed)
@@ -130,5 +89,5 @@ module _ (file : Bytes) (passed : fileCheck file ≡ clear) (F : Figures) (same 
     mean-is : meanOf (F .last) mean ≡ tabFrom 0 (parts (lastYear file)) (priorMean file)
     mean-is = tab-cong 0 (parts (F .last)) (λ k from below. part-is k (omega arith)) ∙ ap (λ J. tabFrom 0 (parts J) (priorMean file)) same-year
 
-    pub fresh : Fresh file after
-    fresh = record { clears = open-clear file passed; fits = after-fits; figures = same; mean = mean-is; none-run = refl }
+    pub done : (s : Session) → ¬ Fits s → Opens s file (record { answer = Opened; session = after })
+    done s closed = opens-done s file closed (open-clear file passed) after after-fits same mean-is refl

@@ -5,44 +5,50 @@ ghost use Rattle.session.specs.State.{stateOf};
 ghost use Rattle.session.specs.Calls.{Opens, Judges, Sweeps, Reads};
 use crate::Session;
 use crate::answers::JudgeAnswer;
-use crate::answers::OpenAnswer;
 use crate::answers::Opening;
 use crate::answers::ReadAnswer;
 use crate::answers::Sweeping;
-use crate::bounds::is_open;
 use crate::lent::judge_lent;
+use crate::lent::open_lent;
 use crate::lent::read_lent;
 use crate::lent::sweep_lent;
-use crate::opening::opened;
 use crate::state::empty;
+use chain::figures::Figures;
 
 // 22, then 1 to 10, then 16.
 pub fn open(s: Session, file: &[u8]) -> Opening
     ensures { λ r. ⌜ Opens s (now (file .entry)) r ⌝ }
 {
-    if is_open(
-        s.figures.last,
-        s.figures.closeness,
-        s.total,
-        &s.figures.own,
-        &s.figures.matrix,
-        &s.figures.right_hand,
-        &s.mean,
-    ) {
-        return Opening {
-            answer: OpenAnswer::Refused(22, 0),
-            session: s,
-        };
+    let figures = s.figures;
+    let mut held = [figures.last as u64, figures.closeness, s.total];
+    let mut own = figures.own;
+    let mut matrix = figures.matrix;
+    let mut right_hand = figures.right_hand;
+    let mut mean = s.mean;
+    let answer = open_lent(
+        &mut held,
+        &mut own,
+        &mut matrix,
+        &mut right_hand,
+        &mut mean,
+        file,
+    );
+    let opened = Figures {
+        last: held[0] as usize,
+        closeness: held[1],
+        own: own,
+        matrix: matrix,
+        right_hand: right_hand,
+    };
+    let session = Session {
+        figures: opened,
+        mean: mean,
+        total: held[2],
+    };
+    Opening {
+        answer: answer,
+        session: session,
     }
-    let opening = opened(file);
-    let answer = opening.answer;
-    if let OpenAnswer::Refused(number, place) = answer {
-        return Opening {
-            answer: OpenAnswer::Refused(number, place),
-            session: s,
-        };
-    }
-    opening
 }
 
 // 21, then 1, 2, 4 and 11.

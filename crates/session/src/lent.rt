@@ -2,22 +2,27 @@
 // the mean and the sweeps run since open. A call that is not refused changes what it is lent by `&mut` and nothing else.
 ghost use Rattle.session.specs.State.{sessionAt, sessionHeld};
 ghost use Rattle.session.specs.Calls.{Opens, Judges, OpenSweep, Sweeps, Reads};
+ghost use Rattle.session.specs.Diagonal.{OfDiagonal, DiagonalOf};
 use crate::answers::JudgeAnswer;
 use crate::answers::OpenAnswer;
 use crate::answers::ReadAnswer;
 use crate::answers::SweepAnswer;
 use crate::bounds::frame_fits;
 use crate::bounds::is_open;
-use crate::opening::opened;
 use chain::figures::Working;
 use chain::judge::Judgement;
 use chain::judge::passes;
+use chain::judge::size;
 use chain::judge::test;
 use chain::residues::residues;
 use chain::sweep::sweeps;
+use figures::figures_in;
 use layout::checks::Check;
+use layout::checks::file::check_file;
 use layout::checks::record::check_record;
+use layout::places::last_year;
 use layout::places::record_length;
+use readings::closeness_of;
 use records::mean_of;
 use records::write_record;
 
@@ -171,6 +176,22 @@ pub fn read_lent<'a>(
     ReadAnswer::Written
 }
 
+// 16: a diagonal entry that is zero.
+fn check_diagonal(last: usize, matrix: &[i64; 961]) -> Check
+    requires { ⌜ OfDiagonal last ⌝ }
+    ensures { λ r. ⌜ DiagonalOf last (now (matrix .entry)) r ⌝ }
+{
+    let count = 2 * last + 1;
+    let mut k = 0usize;
+    while k < count {
+        if size(matrix[31 * k + k]) == 0 {
+            return Check::Refuses(16, 0);
+        }
+        k += 1;
+    }
+    Check::Clear
+}
+
 // 22, then 1 to 10, then 16. `held` has J, the closeness and the sweeps run since open.
 pub fn open_lent<'a>(
     held: &'a mut [u64; 3],
@@ -194,22 +215,17 @@ pub fn open_lent<'a>(
     ) {
         return OpenAnswer::Refused(22, 0);
     }
-    let opening = opened(file);
-    let answer = opening.answer;
-    if let OpenAnswer::Refused(number, place) = answer {
+    let checked = check_file(file);
+    if let Check::Refuses(number, place) = checked {
         return OpenAnswer::Refused(number, place);
     }
-    let session = opening.session;
-    let figures = session.figures;
-    let weights = figures.own;
-    let entries = figures.matrix;
-    let targets = figures.right_hand;
-    let priors = session.mean;
-    let numbers = [figures.last as u64, figures.closeness, session.total];
+    figures_in(own, matrix, right_hand, mean, file);
+    let last = last_year(file);
+    let diagonal = check_diagonal(last as usize, matrix);
+    if let Check::Refuses(number, place) = diagonal {
+        return OpenAnswer::Refused(number, place);
+    }
+    let numbers = [last as u64, closeness_of(file), 0];
     *held = numbers;
-    *own = weights;
-    *matrix = entries;
-    *right_hand = targets;
-    *mean = priors;
     OpenAnswer::Opened
 }

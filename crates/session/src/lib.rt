@@ -7,7 +7,6 @@ pub mod answers;
 mod bounds;
 pub mod calls;
 pub mod lent;
-mod opening;
 pub mod state;
 
 // Nothing (J = 0), or the figures of an accepted file, the mean and the sweeps run since open.

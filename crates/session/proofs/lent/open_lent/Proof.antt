@@ -1,10 +1,19 @@
--- `lent::open_lent` meets its contract: 22 comes before what the file opens to, and where it opens that is stored. Assumes nothing.
+-- `lent::open_lent` meets its contract: after 22 and the checks of the file, its figures and the prior means are held. Check 16 refuses none of the files
+-- that come to it. Assumes nothing.
+use mathlib.Core.Path.{_≡_, sym, ap, subst, subst₂, _∙_}
+use native.Mathlib.Omega.{arith}
 use borrow.Author.Needs.{needs}
 use denote.Ref.{now}
+use Rattle.definitions.specs.Refusals.{clear, fileCheck}
+use Rattle.definitions.specs.Matrix as D
+use Rattle.layout.specs.Checks.{told}
+use Rattle.layout.specs.CheckLaws.{passed, file-whole}
+use Rattle.chain.specs.Arrays.{figuresAt, figuresOf}
 use Rattle.session.specs.declared.Session.{Session}
+use Rattle.session.specs.Diagonal.{DiagonalOf}
 use Rattle.session.specs.State.{Fits, sessionHeld}
 use Rattle.session.specs.CallLaws.{opens-taken, opens-refused}
-use Rattle.session.specs.OpenCall.{opens-fresh}
+use Rattle.session.specs.OpenCall.{file-accepted, open-refuses, few-years, diagonal-clear, done, refuses-clear}
 use Rattle.session.proofs.lent.open_lent.Statement.{statement}
 use Rattle.session.proofs.lent.open_lent.Tie as tie
 
@@ -31,20 +40,58 @@ S s = sessionHeld (now (s .args .held)) (now (s .args .own)) (now (s .args .matr
 closed : (c : tie.Else1) → ¬ Fits (S (c .before .before .before .before .before .before .before .before .before .before))
 closed c = c .before .is-open .ensures .when-no (c .if1 .left)
 
-opened-requires : tie.Need-opened-requires
-opened-requires c κs = search needs
+check-file-requires : tie.Need-check-file-requires
+check-file-requires c κs = search needs
 
-enum-known-answer : tie.Need-enum-known-answer
-enum-known-answer c = search needs
+enum-known-checked : tie.Need-enum-known-checked
+enum-known-checked c = search needs
 
 returns-2 : tie.Need-returns-2
-returns-2 c = opens-refused _ _ (closed (c .before .before .before .before)) _ _ (c .before .before .before .opened .ensures .refused _ _ (c .before .answer .given .1))
+returns-2 c = opens-refused _ _ (closed (c .before .before .before .before)) _ _ (open-refuses _ _ _ (sym (c .before .before .before .check-file .ensures) ∙ ap told (c .before .checked .given .1)))
 
 enum-told : tie.Need-enum-told
 enum-told c = search needs
 
+-- the checks of the file are clear
+clear-file : (c : tie.After-enum-told) → fileCheck (now (c .before .before .before .before .before .before .before .before .before .before .before .before .before .args .file)) ≡ clear
+clear-file c = passed (c .before .before .check-file .ensures) (c .enum-told .given .1)
+
+figures-in-requires : tie.Need-figures-in-requires
+figures-in-requires c κs = file-accepted _ (clear-file (c .before .before .before .before))
+
+last-year-requires : tie.Need-last-year-requires
+last-year-requires c κs = search needs
+
+cast-check-diagonal : tie.Need-cast-check-diagonal
+cast-check-diagonal c = search needs
+
+check-diagonal-requires : tie.Need-check-diagonal-requires
+check-diagonal-requires c κs = record { few = omega (arith, c .before .last-year .ensures, few-years _ (clear-file (c .before .before .before .before .before .before .before)) _ (c .before .before .figures-in .ensures .0)) }
+
+enum-known-diagonal : tie.Need-enum-known-diagonal
+enum-known-diagonal c = search needs
+
 returns-3 : tie.Need-returns-3
-returns-3 c = opens-fresh _ _ (closed (c .before .before .before .before .before .before .before .before .before)) (c .before .before .before .before .before .before .before .before .opened .result .session) (c .before .before .before .before .before .before .before .before .opened .ensures .done (c .before .before .before .before .before .before .enum-told .given .1))
+returns-3 c =
+    absurd (refuses-clear (sym (ap told (c .before .diagonal .given .1))
+    ∙ diagonal-clear _ (clear-file (c .before .before .before .before .before .before .before .before .before .before .before)) _ (c .before .before .before .before .before .before .figures-in .ensures .0)
+    (subst (λ n. DiagonalOf n (c .before .before .before .before .before .before .figures-in .last .1 .0) (c .before .before .before .check-diagonal .result)) (c .before .before .before .before .before .last-year .ensures) (c .before .before .before .check-diagonal .ensures))))
+
+enum-told-2 : tie.Need-enum-told-2
+enum-told-2 c = search needs
+
+cast-t18 : tie.Need-cast-t18
+cast-t18 c = search needs
+
+closeness-of-requires : tie.Need-closeness-of-requires
+closeness-of-requires c κs = file-whole _ (clear-file (c .before .before .before .before .before .before .before .before .before .before))
+
+returns-4 : tie.Need-returns-4
+returns-4 c =
+    let told = c .before .before .before .before .before .before .figures-in in
+    let same = subst₂ (λ J e. figuresOf (figuresAt J e (told .last .0) (told .last .1 .0) (told .last .1 .1 .0)) ≡ D.figuresOf (now (c .before .before .before .before .before .before .before .before .before .before .before .before .before .before .before .before .before .before .before .before .before .before .before .before .args .file)))
+    (sym (c .before .before .before .before .before .last-year .ensures)) (sym (c .closeness-of .ensures)) (told .ensures .0) in
+    done _ (clear-file (c .before .before .before .before .before .before .before .before .before .before .before)) (figuresAt (c .before .before .before .before .before .last-year .result) (c .closeness-of .result) (told .last .0) (told .last .1 .0) (told .last .1 .1 .0)) same _ (told .ensures .1) _ (closed (c .before .before .before .before .before .before .before .before .before .before .before .before .before .before))
 
 pub open-lent-spec : {M : Type 1} → statement M
 open-lent-spec =
@@ -55,8 +102,17 @@ open-lent-spec =
     element-copy-out-is-open-3
     is-open-requires
     returns
-    opened-requires
-    enum-known-answer
+    check-file-requires
+    enum-known-checked
     returns-2
     enum-told
-    returns-3)
+    figures-in-requires
+    last-year-requires
+    cast-check-diagonal
+    check-diagonal-requires
+    enum-known-diagonal
+    returns-3
+    enum-told-2
+    cast-t18
+    closeness-of-requires
+    returns-4)

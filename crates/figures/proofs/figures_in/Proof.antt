@@ -1,17 +1,20 @@
--- `figures::figures_of` meets its contract: each call's array agrees with the definition, and so do the figures. Assumes nothing.
+-- `figures::figures_in` meets its contract: each call's array agrees with the definition, and so do the figures. Assumes nothing.
 use Prim.Native.Nat.{ℕ}
-use mathlib.Core.Path.{_≡_, sym, subst}
+use mathlib.Core.Path.{_≡_, refl, sym, subst}
 use mathlib.Core.List.{List}
 use native.Mathlib.Omega.{arith}
 use denote.Ref.{now}
-use Rattle.definitions.specs.Layout.{lastYear}
+use Rattle.definitions.specs.Layout.{lastYear, closeness}
+use Rattle.definitions.specs.Matrix.{figuresOf as figuresOfFile}
+use Rattle.chain.specs.Arrays.{figuresAt, figuresOf}
+use Rattle.figures.specs.Reading.{PriorMeans}
 use Rattle.figures.specs.Weights.{Owns, OwnWeights, Shares, SharesOf}
 use Rattle.figures.specs.Entries.{OfMatrix, MatrixOf}
 use Rattle.figures.specs.Sums.{OfRatios, RatioSums, OfTargets, Targets}
 use Rattle.figures.specs.Gathered.{file-whole, file-adds, file-owns, file-shares, file-ratios, file-targets, file-matrix, gathered}
 use borrow.Author.Needs.{needs}
-use Rattle.figures.proofs.figures_of.Statement.{statement}
-use Rattle.figures.proofs.figures_of.Tie as tie
+use Rattle.figures.proofs.figures_in.Statement.{statement}
+use Rattle.figures.proofs.figures_in.Tie as tie
 
 -- the places that the later ones go back to, each with what its call gave
 module _ (L : tie.After-last-year) where
@@ -112,38 +115,43 @@ right-hand-of-requires c κs =
     (file-targets (file (Y Q)) (s (Y Q) .pre) (P Q .before .column-weights .ensures) (P Q .prior-weights .ensures) (G .logarithms .ensures) (M .prior-means .ensures) (R Q .ratio-weights .ensures)
     (subst (λ n. RatioSums (R Q .ratio-weights .result) (G .logarithms .result) n (Q .ratio-sums .result)) (year (Y Q)) (Q .ratio-sums .ensures)))
 
-matrix-of-requires : tie.Need-matrix-of-requires
-matrix-of-requires c κs =
-    let Q = sums-of (c .before .before) in
+fill-matrix-requires : tie.Need-fill-matrix-requires
+fill-matrix-requires c κs =
+    let Q = sums-of (c .before .before .before) in
     subst (OfMatrix (O Q .own-weights .result) (S Q .shares .result)) (sym (year (Y Q)))
     (file-matrix (file (Y Q)) (s (Y Q) .pre) (P Q .before .column-weights .ensures) (P Q .prior-weights .ensures)
     (subst (λ n. OwnWeights (P Q .before .column-weights .result) (P Q .prior-weights .result) n (O Q .own-weights .result)) (year (Y Q)) (O Q .own-weights .ensures))
     (R Q .ratio-weights .ensures) (subst (λ n. SharesOf (R Q .ratio-weights .result) n (S Q .shares .result)) (year (Y Q)) (S Q .shares .ensures)))
 
-cast-t30 : tie.Need-cast-t30
-cast-t30 c = let Q = sums-of (c .before .before .before) in omega (arith, year (Y Q), s (Y Q) .pre .years .to)
+-- what was gathered by the end
+module _ (A : tie.After-fill-matrix) where
+  abbrev T : tie.After-right-hand-of
+  T = A .before .before .before .before
 
-closeness-of-requires : tie.Need-closeness-of-requires
-closeness-of-requires c κs = let Q = sums-of (c .before .before .before) in file-whole (file (Y Q)) (s (Y Q) .pre)
+  abbrev Q : tie.After-ratio-sums
+  Q = sums-of T
+
+  means-are : PriorMeans (file (Y Q)) (means-of Q .prior-means .result)
+  means-are = means-of Q .prior-means .ensures
+
+  figures-are : figuresOf (figuresAt (lastYear (file (Y Q))) (closeness (file (Y Q))) (O Q .own-weights .result) (A .fill-matrix .last .0) (T .right-hand-of .result)) ≡ figuresOfFile (file (Y Q))
+  figures-are =
+      let M = means-of Q in
+      let G = logs-of M in
+      let e = year (Y Q) in
+      gathered (file (Y Q)) (s (Y Q) .pre) _ refl refl (P Q .before .column-weights .ensures) (P Q .prior-weights .ensures)
+      (subst (λ n. OwnWeights (P Q .before .column-weights .result) (P Q .prior-weights .result) n (O Q .own-weights .result)) e (O Q .own-weights .ensures))
+      (R Q .ratio-weights .ensures) (subst (λ n. SharesOf (R Q .ratio-weights .result) n (S Q .shares .result)) e (S Q .shares .ensures))
+      (G .logarithms .ensures) (M .prior-means .ensures)
+      (subst (λ n. RatioSums (R Q .ratio-weights .result) (G .logarithms .result) n (Q .ratio-sums .result)) e (Q .ratio-sums .ensures))
+      (subst (λ n. Targets (P Q .prior-weights .result) (M .prior-means .result) (P Q .before .column-weights .result) (G .logarithms .result) (Q .ratio-sums .result) n (T .right-hand-of .result)) e (T .right-hand-of .ensures))
+      (subst (λ n. MatrixOf (O Q .own-weights .result) (S Q .shares .result) n (A .fill-matrix .last .0)) e (A .fill-matrix .ensures))
 
 returns : tie.Need-returns
-returns c =
-    let A = c .before in
-    let T = A .before .before .before in
-    let Q = sums-of T in
-    let M = means-of Q in
-    let G = logs-of M in
-    let e = year (Y Q) in
-    gathered (file (Y Q)) (s (Y Q) .pre) _ e (c .closeness-of .ensures) (P Q .before .column-weights .ensures) (P Q .prior-weights .ensures)
-    (subst (λ n. OwnWeights (P Q .before .column-weights .result) (P Q .prior-weights .result) n (O Q .own-weights .result)) e (O Q .own-weights .ensures))
-    (R Q .ratio-weights .ensures) (subst (λ n. SharesOf (R Q .ratio-weights .result) n (S Q .shares .result)) e (S Q .shares .ensures))
-    (G .logarithms .ensures) (M .prior-means .ensures)
-    (subst (λ n. RatioSums (R Q .ratio-weights .result) (G .logarithms .result) n (Q .ratio-sums .result)) e (Q .ratio-sums .ensures))
-    (subst (λ n. Targets (P Q .prior-weights .result) (M .prior-means .result) (P Q .before .column-weights .result) (G .logarithms .result) (Q .ratio-sums .result) n (T .right-hand-of .result)) e (T .right-hand-of .ensures))
-    (subst (λ n. MatrixOf (O Q .own-weights .result) (S Q .shares .result) n (A .matrix-of .result)) e (A .matrix-of .ensures))
+returns c = (figures-are c, means-are c)
 
-pub figures-of-spec : {M : Type 1} → statement M
-figures-of-spec =
+pub figures-in-spec : {M : Type 1} → statement M
+figures-in-spec =
     tie.close
     (tie.spec
     last-year-requires
@@ -156,7 +164,5 @@ figures-of-spec =
     prior-means-requires
     ratio-sums-requires
     right-hand-of-requires
-    matrix-of-requires
-    cast-t30
-    closeness-of-requires
+    fill-matrix-requires
     returns)

@@ -1,4 +1,4 @@
--- `opening::check_diagonal` meets its contract. The loop's invariant: the entries from k on give what all of them give. The measure is how many are
+-- `lent::check_diagonal` meets its contract. The loop's invariant: the entries from k on give what all of them give. The measure is how many are
 -- left. Assumes nothing.
 use Prim.Native.Nat.{_-_}
 use mathlib.Core.Path.{_≡_, sym, ap, _∙_}
@@ -13,8 +13,8 @@ use Rattle.layout.specs.CheckLaws.{Left, left-start, left-none, left-next, left
 use Rattle.chain.specs.Arrays.{cell}
 use Rattle.chain.specs.Bits.{same}
 use Rattle.session.specs.Diagonal.{nonZero}
-use Rattle.session.proofs.opening.check_diagonal.Statement.{statement}
-use Rattle.session.proofs.opening.check_diagonal.Tie as tie
+use Rattle.session.proofs.lent.check_diagonal.Statement.{statement}
+use Rattle.session.proofs.lent.check_diagonal.Tie as tie
 
 abbrev Inv-loop : tie.InvT-loop
 Inv-loop last matrix count k₀ k = Left (nonZero matrix) 16 (λ i. 0) (parts last) k

@@ -1,18 +1,18 @@
--- `figures::matrix::matrix_of` meets its contract. The loop's invariant: the rows passed are filled. Assumes nothing.
+-- `figures::matrix::fill_matrix` meets its contract. The loop's invariant: the rows passed are filled. Assumes nothing.
 use Prim.Native.Nat.{_-_, _≤_}
 use native.Mathlib.Omega.{arith}
 use lib.IntN.{pos}
 use lib.ListN.{length-replicate}
 use Rattle.figures.specs.Entries.{RowsTo}
 use Rattle.figures.specs.EntryLaws.{rows-none, rows-next, rows-to}
-use Rattle.figures.proofs.matrix.matrix_of.Statement.{statement}
-use Rattle.figures.proofs.matrix.matrix_of.Tie as tie
+use Rattle.figures.proofs.matrix.fill_matrix.Statement.{statement}
+use Rattle.figures.proofs.matrix.fill_matrix.Tie as tie
 
 abbrev Inv-loop : tie.InvT-loop
-Inv-loop own shares last count turned matrix₀ k₀ matrix k = (k ≤ count) × RowsTo k own shares last matrix
+Inv-loop matrix₀ own shares last count turned k₀ matrix k = (k ≤ count) × RowsTo k own shares last matrix
 
 abbrev μ-loop : tie.MeasureT-loop
-μ-loop own shares last count turned matrix₀ k₀ matrix k = count - k
+μ-loop matrix₀ own shares last count turned k₀ matrix k = count - k
 
 mul-count : tie.Need-mul-count Inv-loop μ-loop
 mul-count c = omega arith
@@ -31,8 +31,8 @@ fill-row-requires c κs =
     let l = c .before .before .before in
     record {
       long = l .loop .inv .1 .long;
-      of-row = record { of-matrix = l .before .before .pre; row = omega (arith, c .before .before .loop-test .taken) };
-      of-turned = l .before .turned-shares .ensures;
+      of-row = record { of-matrix = l .before .before .before .pre; row = omega (arith, c .before .before .loop-test .taken) };
+      of-turned = l .before .before .turned-shares .ensures;
     }
 
 add-k : tie.Need-add-k Inv-loop μ-loop
@@ -44,13 +44,13 @@ loop-less c = omega arith
 loop-again : tie.Need-loop-again Inv-loop μ-loop
 loop-again c =
     let l = c .before .before .before .before in
-    (omega arith, rows-next (l .before .before .pre .few) (l .loop .inv .1) (c .fill-row .ensures))
+    (omega arith, rows-next (l .before .before .before .pre .few) (l .loop .inv .1) (c .fill-row .ensures))
 
 returns : tie.Need-returns Inv-loop μ-loop
 returns c = record { whole = rows-to (omega arith) (c .before .loop .inv .1) }
 
-pub matrix-of-spec : {M : Type 1} → statement M
-matrix-of-spec =
+pub fill-matrix-spec : {M : Type 1} → statement M
+fill-matrix-spec =
     tie.close
     (tie.spec
     Inv-loop
