@@ -37,33 +37,20 @@ fn signed_4(bytes: &[u8], at: usize) -> i64 {
     i64::from(unsigned::<4>(bytes, at) as u32 as i32)
 }
 
-/// One squaring of document 01's logarithm, with its branch: the next bit and y.
-#[cfg(not(feature = "branch_free"))]
-fn squared(y: u64) -> (i64, u64) {
-    let square = y * y;
-    if square >= 1 << 63 {
-        (1, square >> 32)
-    } else {
-        (0, square >> 31)
-    }
-}
-
-/// The same without the branch.
-#[cfg(feature = "branch_free")]
-fn squared(y: u64) -> (i64, u64) {
-    let square = y * y;
-    let bit = square >> 63;
-    (bit as i64, square >> (31 + bit))
-}
-
+/// Document 01's logarithm. The compiler makes no jump of its branch.
 pub fn logarithm(amount: u64) -> i64 {
     let h = 63 - amount.leading_zeros();
     let mut y = if h <= 31 { amount << (31 - h) } else { amount >> (h - 31) };
     let mut bits = 0;
     for _ in 0..20 {
-        let (bit, next) = squared(y);
-        bits = 2 * bits + bit;
-        y = next;
+        let square = y * y;
+        if square >= 1 << 63 {
+            bits = 2 * bits + 1;
+            y = square >> 32;
+        } else {
+            bits *= 2;
+            y = square >> 31;
+        }
     }
     i64::from(h) * TICKS + bits
 }
