@@ -1,6 +1,8 @@
 -- What the arrays of the code stand for. An array of i64 is a list of whole numbers 31 or 961 long, of which the parts 0..2J count.
-use Prim.Native.Nat.{ℕ, _+_, _*_}
+use Prim.Native.Nat.{ℕ, _+_, _*_, _≤_, min, max}
+use mathlib.Core.Path.{_≡_, ap}
 use mathlib.Core.List.{List, []}
+use native.Mathlib.Omega.{arith}
 use lib.IntN.{ℤ, _-ℤ_, _*ℤ_}
 use lib.ListN.{getD}
 use Rattle.integers.specs.Sum.{sum}
@@ -14,9 +16,17 @@ use Rattle.chain.specs.declared.figures.Working.{Working}
 abbrev pub meanOf : ℕ → List ℤ → List ℤ
 meanOf last v = tabFrom 0 (parts last) (part v)
 
--- row k, column l of the matrix is at 31·k + l
-abbrev pub cell : List ℤ → ℕ → ℕ → ℤ
-cell A k l = part A (31 * k + l)
+-- Row k, column l of the matrix is at 31·k + l. Of two entries that mirror each other the one on or below the diagonal counts.
+unfoldable pub cell : List ℤ → ℕ → ℕ → ℤ
+cell A k l = part A (31 * max k l + min k l)
+
+pub cell-at : (A : List ℤ) (k l : ℕ) → l ≤ k → cell A k l ≡ part A (31 * k + l)
+unfolding cell
+cell-at A k l before = ap (part A) (omega arith)
+
+pub cell-mirrored : (A : List ℤ) (k l : ℕ) → cell A k l ≡ cell A l k
+unfolding cell
+cell-mirrored A k l = ap (part A) (omega arith)
 
 abbrev pub rowsOf : ℕ → List ℤ → List (List ℤ)
 rowsOf last A = tabFrom 0 (parts last) (λ k. tabFrom 0 (parts last) (cell A k))

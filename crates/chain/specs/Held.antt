@@ -1,16 +1,18 @@
 -- A working mean and the system that it belongs to: its residues are those of its mean, and stay so where one part is set anew.
-use Prim.Native.Nat.{ℕ, zero, suc, _+_, _*_, _≤_, _<_}
-use mathlib.Core.Path.{_≡_, refl, sym, ap, ap₂, _∙_}
+use Prim.Native.Nat.{ℕ, zero, suc, _+_, _*_, _/_, _≤_, _<_}
+use mathlib.Core.Path.{_≡_, refl, sym, ap, ap₂, _∙_, subst}
 use mathlib.Core.List.{List, [], _∷_}
 use native.Mathlib.Decide.{ℕ-discrete}
 use native.Mathlib.Omega.{arith}
 use lib.IntN.{ℤ, pos, natAbs, _+ℤ_, _-ℤ_, _*ℤ_}
 use lib.ListN.{length, set, length-set}
+use lib.Signed.{_≤ℤ_, _<ℤ_}
 use lib.Seq.{ext-getD, getD-set-same, getD-set-other}
 use Rattle.integers.specs.Solver.{ring, _⊞_, _⊟_, _≐_}
-use Rattle.integers.specs.Size.{natAbs-*}
+use Rattle.integers.specs.Linear.{linear, zarith}
+use Rattle.integers.specs.Order.{nonneg-pos, pos-<}
 use Rattle.integers.specs.Sum.{sum}
-use Rattle.integers.specs.Floor.{floorDiv}
+use Rattle.integers.specs.Floor.{floorDiv, floor-half}
 use Rattle.definitions.specs.Words.{tabFrom, part}
 use Rattle.definitions.specs.Layout.{parts}
 use Rattle.definitions.specs.Matrix.{residue, entry}
@@ -50,9 +52,13 @@ mean-set last v long k below z =
 
 -- ---- a working mean
 
--- part k after its step, in the arrays' terms
+-- what part k changes by before it is brought back, in the arrays' terms and with half of the diagonal entry rounded down
+abbrev pub moved : List ℤ → Working → ℕ → ℤ
+moved A w k = floorDiv (pos (natAbs (cell A k k) / 2) -ℤ part (w .residues) k) (natAbs (cell A k k))
+
+-- part k after its step
 abbrev pub stepped : List ℤ → Working → ℕ → ℤ
-stepped A w k = bringBack (part (w .mean) k +ℤ floorDiv (cell A k k -ℤ pos 2 *ℤ part (w .residues) k) (natAbs (pos 2 *ℤ cell A k k)))
+stepped A w k = bringBack (part (w .mean) k +ℤ moved A w k)
 
 module _ (last : ℕ) (A : List ℤ) (w : Working) (k : ℕ) (below : k < parts last) where
   pub held-difference : sum (parts last) (λ l. cell A k l *ℤ part (w .mean) l) -ℤ part (heldRightHand last A w) k ≡ part (w .residues) k
@@ -69,12 +75,20 @@ module _ (last : ℕ) (A : List ℤ) (w : Working) (k : ℕ) (below : k < parts 
   unfolding held
   held-diagonal = entry-at last A (heldRightHand last A w) k k below below
 
-  pub step-is : step (held last A w) k (meanOf last (w .mean)) ≡ set (meanOf last (w .mean)) k (stepped A w k)
+  pub step-is : pos 1 ≤ℤ cell A k k → step (held last A w) k (meanOf last (w .mean)) ≡ set (meanOf last (w .mean)) k (stepped A w k)
   unfolding step change
-  step-is =
+  step-is positive =
       ap (λ z. set (meanOf last (w .mean)) k (bringBack z))
       (ap₂ _+ℤ_ (mean-at last (w .mean) k below)
-      (ap₂ floorDiv (ap₂ (λ a r. a -ℤ pos 2 *ℤ r) held-diagonal held-residue) (ap (λ a. 2 * natAbs a) held-diagonal ∙ sym (natAbs-* (pos 2) (cell A k k)))))
+      (ap₂ (λ a r. floorDiv (a -ℤ pos 2 *ℤ r) (2 * natAbs a)) held-diagonal held-residue
+      ∙ ap (λ a. floorDiv (a -ℤ pos 2 *ℤ part (w .residues) k) (2 * natAbs (cell A k k))) (sym (nonneg-pos at-least-0))
+      ∙ floor-half (natAbs (cell A k k)) (part (w .residues) k) some))
+    where
+      at-least-0 : pos 0 ≤ℤ cell A k k
+      at-least-0 = simp linear (omega zarith)
+
+      some : 0 < natAbs (cell A k k)
+      some = pos-< .1 (subst (λ a. pos 0 <ℤ a) (sym (nonneg-pos at-least-0)) (simp linear (omega zarith)))
 
 -- ---- one part of it set anew, and the residues following
 

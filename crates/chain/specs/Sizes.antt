@@ -1,13 +1,17 @@
 -- The flat arrays beside the definitions' lists, and the sizes of what the code computes from figures that fit and a mean inside the limits.
-use Prim.Native.Nat.{ℕ, _+_, _*_, _≤_, _<_, zero-le}
-use mathlib.Core.Path.{_≡_, refl, sym, ap, ap₂, _∙_}
+use Prim.Native.Nat.{ℕ, _+_, _*_, _-_, _≤_, _<_, zero-le}
+use mathlib.Core.Path.{_≡_, refl, sym, ap, ap₂, _∙_, subst}
+use mathlib.Core.Logic.{_≢_}
 use mathlib.Core.List.{List, []}
+use native.Mathlib.Decide.{decLe, ℕ-discrete}
 use native.Mathlib.Nat.{le-refl, le-trans, le-of-eq, mul-le-mul-right}
 use native.Mathlib.Omega.{arith}
 use lib.IntN.{ℤ, pos, natAbs, _-ℤ_, _*ℤ_}
+use lib.Signed.{_≤ℤ_}
+use Rattle.integers.specs.Linear.{linear, zarith}
 use Rattle.integers.specs.Size.{natAbs--, natAbs-*-≤}
 use Rattle.integers.specs.Sum.{sum, sum-cong}
-use Rattle.integers.specs.Total.{sizes, sum-size, total-cong, total-mono, total-term, total-scale-right}
+use Rattle.integers.specs.Total.{sizes, sum-size, total-mono, total-scale-right, total-bound-but-one}
 use Rattle.definitions.specs.Words.{tabFrom, part}
 use Rattle.definitions.specs.Layout.{parts}
 use Rattle.definitions.specs.Refusals.{partLimit}
@@ -15,8 +19,9 @@ use Rattle.definitions.specs.Loss.{Vector}
 use Rattle.definitions.specs.Matrix.{residue, entry}
 use Rattle.laws.specs.Judged.{tab-at}
 use Rattle.chain.specs.declared.figures.Figures.{Figures as FlatFigures}
-use Rattle.chain.specs.Arrays.{meanOf, cell, system, figuresOf}
-use Rattle.chain.specs.Fitting.{Fitting, Inside, rowLimit, rightHandLimit}
+use Rattle.chain.specs.Arrays.{meanOf, cell, cell-mirrored, system, figuresOf}
+use Rattle.chain.specs.Fitting.{Fitting, Inside, entryLimit, diagonalLimit, rowLimit, rightHandLimit}
+use Rattle.chain.specs.Residues.{RowsFit}
 
 -- ---- lists and arrays
 
@@ -49,12 +54,29 @@ module _ (F : FlatFigures) where
     years = h .years;
     close = zero-le;
     own-weights = λ k below. zero-le;
-    rows = h .rows;
+    entries = h .entries;
     diagonal = h .diagonal;
+    diagonal-to = h .diagonal-to;
     right-hand = h .right-hand;
   }
 
 -- ---- sizes
+
+-- the first n rows of a matrix whose entries before the diagonal are in the bounds
+module _ (A : List ℤ) (n : ℕ) (rows : RowsFit A n) where
+  pub off-diagonal : (k l : ℕ) → k < n → l < n → l ≢ k → natAbs (cell A k l) ≤ entryLimit
+  off-diagonal k l k-below l-below apart = by-side (decLe l k)
+    where
+      by-side : Dec (l ≤ k) → natAbs (cell A k l) ≤ entryLimit
+      by-side (yes before) = rows k k-below l (omega (arith, apart))
+      by-side (no after) = subst (λ z. natAbs z ≤ entryLimit) (cell-mirrored A l k) (rows l l-below k (omega (arith, after)))
+
+  pub row-fits : n ≤ 31 → (k : ℕ) → k < n → natAbs (cell A k k) ≤ diagonalLimit → sizes n (cell A k) ≤ rowLimit
+  row-fits few k below diagonal = omega (
+    arith,
+    mul-le-mul-right entryLimit few,
+    total-bound-but-one n k entryLimit (diagonalLimit - entryLimit) {f = λ l. natAbs (cell A k l)} (λ l l-below apart. off-diagonal k l below l-below apart) (λ _. omega arith),
+  )
 
 -- a row whose first n sizes fit, times a mean
 module _ (A μ : List ℤ) (k n : ℕ) (fits : sizes n (cell A k) ≤ rowLimit) (inside : Inside n μ) where
@@ -63,9 +85,6 @@ module _ (A μ : List ℤ) (k n : ℕ) (fits : sizes n (cell A k) ≤ rowLimit) 
       le-trans (total-mono n (λ l below. natAbs-*-≤ (cell A k l) (part μ l) (le-refl (natAbs (cell A k l))) (inside .small l below)))
       (le-trans (le-of-eq (total-scale-right n partLimit (λ l. natAbs (cell A k l)))) (mul-le-mul-right partLimit fits))
 
-  pub product-fits : (l : ℕ) → l < n → natAbs (cell A k l *ℤ part μ l) ≤ rowLimit * partLimit
-  product-fits l below = le-trans (total-term n l (λ i. natAbs (cell A k i *ℤ part μ i)) below) products-fit
-
   pub sum-fits : natAbs (sum n (λ l. cell A k l *ℤ part μ l)) ≤ rowLimit * partLimit
   sum-fits = le-trans (sum-size n (λ l. cell A k l *ℤ part μ l)) products-fit
 
@@ -73,13 +92,26 @@ module _ (A μ : List ℤ) (k n : ℕ) (fits : sizes n (cell A k) ≤ rowLimit) 
   difference-fits z small = le-trans (natAbs-- (sum n (λ l. cell A k l *ℤ part μ l)) z) (omega (arith, sum-fits, small))
 
 module _ (last : ℕ) (A β : List ℤ) (fitting : Fitting (system last A β)) where
-  row-fits : (k : ℕ) → k < parts last → sizes (parts last) (cell A k) ≤ rowLimit
-  row-fits k below =
-      le-trans (le-of-eq (total-cong (parts last) (λ l l-below. ap natAbs (sym (entry-at last A β k l below l-below))))) (fitting .rows k below)
+  rows-fit : RowsFit A (parts last)
+  rows-fit k below l before = subst (λ z. natAbs z ≤ entryLimit) (entry-at last A β k l below (omega arith)) (fitting .entries k below l before)
 
-  pub cell-fits : (k l : ℕ) → k < parts last → l < parts last → natAbs (cell A k l) ≤ rowLimit
-  cell-fits k l k-below l-below = le-trans (total-term (parts last) l (λ i. natAbs (cell A k i)) l-below) (row-fits k k-below)
+  pub diagonal-from : (k : ℕ) → k < parts last → pos 1 ≤ℤ cell A k k
+  diagonal-from k below = subst (λ z. pos 1 ≤ℤ z) (entry-at last A β k k below below) (fitting .diagonal k below)
+
+  pub diagonal-fits : (k : ℕ) → k < parts last → natAbs (cell A k k) ≤ diagonalLimit
+  diagonal-fits k below =
+      let from : pos 1 ≤ℤ cell A k k = diagonal-from k below in
+      let to : cell A k k ≤ℤ pos diagonalLimit = subst (λ z. z ≤ℤ pos diagonalLimit) (entry-at last A β k k below below) (fitting .diagonal-to k below) in
+      simp linear (omega zarith)
+
+  pub cell-fits : (k l : ℕ) → k < parts last → l < parts last → natAbs (cell A k l) ≤ diagonalLimit
+  cell-fits k l k-below l-below = by-place (ℕ-discrete l k)
+    where
+      by-place : Dec (l ≡ k) → natAbs (cell A k l) ≤ diagonalLimit
+      by-place (yes here) = subst (λ i. natAbs (cell A k i) ≤ diagonalLimit) (sym here) (diagonal-fits k k-below)
+      by-place (no apart) = omega (arith, off-diagonal A (parts last) rows-fit k l k-below l-below apart)
 
   pub residue-fits : (μ : List ℤ) → Inside (parts last) μ → (k : ℕ) → k < parts last
       → natAbs (sum (parts last) (λ l. cell A k l *ℤ part μ l) -ℤ part β k) ≤ rowLimit * partLimit + rightHandLimit
-  residue-fits μ inside k below = difference-fits A μ k (parts last) (row-fits k below) inside (part β k) (fitting .right-hand k below)
+  residue-fits μ inside k below =
+      difference-fits A μ k (parts last) (row-fits A (parts last) rows-fit (omega (arith, fitting .years)) k below (diagonal-fits k below)) inside (part β k) (fitting .right-hand k below)

@@ -10,7 +10,7 @@ use Rattle.definitions.specs.Refusals.{yearLimit, partLimit}
 use Rattle.definitions.specs.Sweep.{step}
 use Rattle.chain.specs.declared.figures.Working.{Working}
 use Rattle.chain.specs.Arrays.{meanOf, cell, held}
-use Rattle.chain.specs.Fitting.{Fitting, Inside, rowLimit}
+use Rattle.chain.specs.Fitting.{Fitting, Inside, diagonalLimit}
 
 -- ---- residues v of which part k of the mean changes by d
 
@@ -18,7 +18,7 @@ pub record Follows (last : ℕ) (A v : List ℤ) (k : ℕ) (d : ℤ) : Type 0 wh
   pub years : last ≤ yearLimit
   pub long : length v ≡ 31
   pub below : k < parts last
-  pub column : (l : ℕ) → l < parts last → natAbs (cell A l k) ≤ rowLimit
+  pub column : (l : ℕ) → l < parts last → natAbs (cell A l k) ≤ diagonalLimit
   pub change : natAbs d ≤ 2 * partLimit
   pub sums : (l : ℕ) → l < parts last → natAbs (part v l +ℤ cell A l k *ℤ d) < 2 ^ 63
 

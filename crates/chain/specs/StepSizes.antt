@@ -1,5 +1,5 @@
 -- The sizes of what a step computes, and what it has then done.
-use Prim.Native.Nat.{ℕ, suc, _+_, _*_, _^_, _≤_, _<_}
+use Prim.Native.Nat.{ℕ, suc, _+_, _*_, _/_, _^_, _≤_, _<_}
 use mathlib.Core.Path.{_≡_, sym, ap, _∙_, subst}
 use mathlib.Core.List.{List}
 use native.Mathlib.Decide.{ℕ-discrete}
@@ -9,7 +9,7 @@ use lib.IntN.{ℤ, pos, negsuc, natAbs, _+ℤ_, _-ℤ_, _*ℤ_}
 use lib.Signed.{mag, mag-shr, natAbs-le, _≤ℤ_}
 use lib.ListN.{length, set}
 use lib.Seq.{getD-set-same, getD-set-other}
-use Rattle.integers.specs.Size.{natAbs-+, natAbs--, natAbs-*}
+use Rattle.integers.specs.Size.{natAbs-+, natAbs--}
 use Rattle.integers.specs.Floor.{floorDiv}
 use Rattle.definitions.specs.Words.{part}
 use Rattle.definitions.specs.Layout.{parts}
@@ -17,9 +17,9 @@ use Rattle.definitions.specs.Refusals.{partLimit}
 use Rattle.laws.specs.StepLaws.{bringBack-inside}
 use Rattle.chain.specs.declared.figures.Working.{Working}
 use Rattle.chain.specs.Arrays.{meanOf, cell, system, heldRightHand, held}
-use Rattle.chain.specs.Fitting.{Fitting, Inside, rowLimit, rightHandLimit}
-use Rattle.chain.specs.Held.{held-difference, stepped, step-is, mean-set, followed-is, held-same}
-use Rattle.chain.specs.Sizes.{entry-at, cell-fits, residue-fits}
+use Rattle.chain.specs.Fitting.{Fitting, Inside, diagonalLimit, rowLimit, rightHandLimit}
+use Rattle.chain.specs.Held.{held-difference, moved, stepped, step-is, mean-set, followed-is, held-same}
+use Rattle.chain.specs.Sizes.{diagonal-from, diagonal-fits, cell-fits, residue-fits}
 use Rattle.chain.specs.Step.{Follows, Followed, Steps, Stepped}
 
 -- |z| is at most one more than `mag z`, and `mag z` at most |z|
@@ -44,36 +44,32 @@ module _ {last : ℕ} {A : List ℤ} {w : Working} {k : ℕ} (h : Steps last A w
   pub index-below : k < 31
   index-below = omega (arith, parts-below, h .below)
 
-  pub diagonal-small : natAbs (cell A k k) ≤ rowLimit
-  diagonal-small = cell-fits last A (heldRightHand last A w) held-fits k k (h .below) (h .below)
+  pub diagonal-small : natAbs (cell A k k) ≤ diagonalLimit
+  diagonal-small = diagonal-fits last A (heldRightHand last A w) held-fits k (h .below)
 
   pub diagonal-positive : pos 1 ≤ℤ cell A k k
-  diagonal-positive = subst (λ a. pos 1 ≤ℤ a) (entry-at last A (heldRightHand last A w) k k (h .below) (h .below)) (held-fits .diagonal k (h .below))
+  diagonal-positive = diagonal-from last A (heldRightHand last A w) held-fits k (h .below)
 
   pub residue-small : natAbs (part (w .residues) k) ≤ rowLimit * partLimit + rightHandLimit
   residue-small =
       omega (arith, residue-fits last A (heldRightHand last A w) held-fits (w .mean) (h .inside) k (h .below), ap natAbs (held-difference last A w k (h .below)))
 
-  pub doubled-small : natAbs (pos 2 *ℤ part (w .residues) k) ≤ 2 * (rowLimit * partLimit + rightHandLimit)
-  doubled-small = omega (arith, residue-small, natAbs-* (pos 2) (part (w .residues) k))
+  pub half-small : natAbs (cell A k k) / 2 ≤ diagonalLimit
+  half-small = omega (arith, diagonal-small)
 
-  pub dividend-small : natAbs (cell A k k -ℤ pos 2 *ℤ part (w .residues) k) ≤ rowLimit + 2 * (rowLimit * partLimit + rightHandLimit)
-  dividend-small = le-trans (natAbs-- (cell A k k) (pos 2 *ℤ part (w .residues) k)) (omega (arith, diagonal-small, doubled-small))
+  pub dividend-small : natAbs (pos (natAbs (cell A k k) / 2) -ℤ part (w .residues) k) ≤ diagonalLimit + (rowLimit * partLimit + rightHandLimit)
+  dividend-small = le-trans (natAbs-- (pos (natAbs (cell A k k) / 2)) (part (w .residues) k)) (omega (arith, half-small, residue-small))
 
-  pub divisor-small : natAbs (pos 2 *ℤ cell A k k) ≤ 2 * rowLimit
-  divisor-small = omega (arith, diagonal-small, natAbs-* (pos 2) (cell A k k))
+  pub quotient-small : natAbs (moved A w k) ≤ diagonalLimit + (rowLimit * partLimit + rightHandLimit) + 1
+  quotient-small = omega (arith, floor-size (pos (natAbs (cell A k k) / 2) -ℤ part (w .residues) k) (natAbs (cell A k k)), dividend-small)
 
-  pub floor-small : (d : ℕ) → natAbs (floorDiv (cell A k k -ℤ pos 2 *ℤ part (w .residues) k) d) ≤ rowLimit + 2 * (rowLimit * partLimit + rightHandLimit) + 1
-  floor-small d = omega (arith, floor-size (cell A k k -ℤ pos 2 *ℤ part (w .residues) k) d, dividend-small)
-
-  pub moved-small : (d : ℕ) → natAbs (part (w .mean) k +ℤ floorDiv (cell A k k -ℤ pos 2 *ℤ part (w .residues) k) d) < 2 ^ 63
-  moved-small d =
-      omega (arith, natAbs-+ (part (w .mean) k) (floorDiv (cell A k k -ℤ pos 2 *ℤ part (w .residues) k) d), h .inside .small k (h .below), floor-small d)
+  pub moved-small : natAbs (part (w .mean) k +ℤ moved A w k) < 2 ^ 63
+  moved-small = omega (arith, natAbs-+ (part (w .mean) k) (moved A w k), h .inside .small k (h .below), quotient-small)
 
   -- ---- the part set anew
 
   pub fresh-small : natAbs (stepped A w k) ≤ partLimit
-  fresh-small = bringBack-inside (part (w .mean) k +ℤ floorDiv (cell A k k -ℤ pos 2 *ℤ part (w .residues) k) (natAbs (pos 2 *ℤ cell A k k)))
+  fresh-small = bringBack-inside (part (w .mean) k +ℤ moved A w k)
 
   pub change-small : natAbs (stepped A w k -ℤ part (w .mean) k) ≤ 2 * partLimit
   change-small = omega (arith, natAbs-- (stepped A w k) (part (w .mean) k), fresh-small, h .inside .small k (h .below))
@@ -110,7 +106,7 @@ module _ {last : ℕ} {A : List ℤ} {w : Working} {k : ℕ} (h : Steps last A w
         let r : Working = record { mean = set (w .mean) k z; residues = v } in
         let mean-is : set (w .mean) k z ≡ set (w .mean) k (stepped A w k) = ap (set (w .mean) k) z-is in
         record {
-          mean = ap (meanOf last) mean-is ∙ mean-set last (w .mean) long k (h .below) (stepped A w k) ∙ sym (step-is last A w k (h .below));
+          mean = ap (meanOf last) mean-is ∙ mean-set last (w .mean) long k (h .below) (stepped A w k) ∙ sym (step-is last A w k (h .below) diagonal-positive);
           residues = held-same last A w long k (h .below) (stepped A w k) r mean-is
               (λ i i-below. followed .at i i-below ∙ ap (λ e. part (w .residues) i +ℤ cell A i k *ℤ e) d-is);
           inside = subst (Inside (parts last)) (sym mean-is) still-inside;

@@ -30,7 +30,8 @@ fn brought_back(z: i64) -> i64
     }
 }
 
-// Part k has changed, and the residues follow: column k of A times the change is added.
+// Part k has changed, and the residues follow: column k of A times the change is added. Above the diagonal the column is read as
+// row k, its mirror.
 fn follow(last: usize, matrix: &[i64; 961], residues: &mut [i64; 31], k: usize, change: i64)
     requires { ⌜ Follows last (now matrix) (now residues) k change ⌝ }
     ensures { λ _. ⌜ Followed last (now (matrix .entry)) (now (residues .entry)) k change (now (residues .exit)) ⌝ }
@@ -40,13 +41,18 @@ fn follow(last: usize, matrix: &[i64; 961], residues: &mut [i64; 31], k: usize, 
     }
     let parts = 2 * last + 1;
     let mut l = 0;
+    while l < k {
+        residues[l] = residues[l] + matrix[31 * k + l] * change;
+        l += 1;
+    }
     while l < parts {
         residues[l] = residues[l] + matrix[31 * l + k] * change;
         l += 1;
     }
 }
 
-// Part k changes by floor((A_kk − 2·residue) / (2·A_kk)) and is brought back; residues follow.
+// Part k changes by floor((A_kk − 2·residue) / (2·A_kk)) and is brought back; residues follow. Half of A_kk is rounded down first,
+// which gives the same number and keeps twice a residue out of the 64 bits.
 fn step(last: usize, matrix: &[i64; 961], working: Working, k: usize) -> Working
     requires { ⌜ Steps last (now matrix) working k ⌝ }
     ensures { λ r. ⌜ Stepped last (now (matrix .entry)) working k r ⌝ }
@@ -54,7 +60,7 @@ fn step(last: usize, matrix: &[i64; 961], working: Working, k: usize) -> Working
     let mut after = working;
     let diagonal = matrix[31 * k + k];
     let old = after.mean[k];
-    let fresh = brought_back(old + floor(diagonal - 2 * after.residues[k], 2 * diagonal));
+    let fresh = brought_back(old + floor(diagonal / 2 - after.residues[k], diagonal));
     after.mean[k] = fresh;
     follow(last, matrix, &mut after.residues, k, fresh - old);
     after

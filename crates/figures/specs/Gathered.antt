@@ -2,6 +2,7 @@
 use Prim.Native.Nat.{ℕ, _-_, _^_, _≤_, _<_}
 use mathlib.Core.Path.{_≡_, sym, ap, subst, _∙_}
 use mathlib.Core.List.{List}
+use native.Mathlib.Decide.{decLe}
 use native.Mathlib.Omega.{arith}
 use lib.IntN.{ℤ, pos, natAbs, _*ℤ_}
 use Rattle.integers.specs.Size.{natAbs-*-≤}
@@ -15,11 +16,12 @@ use Rattle.definitions.specs.Matrix as D
 use Rattle.laws.specs.Accepted.{AcceptedFile}
 use Rattle.laws.specs.WeightLaws.{weight-at-most}
 use Rattle.laws.specs.FileBounds.{g-to}
+use Rattle.laws.specs.Diagonal.{matrix-symmetric}
 use Rattle.laws.specs.FileLimits.{logarithm-limit, y-limit, file-limits}
 use Rattle.laws.specs.PrecisionMatrix.{ratios-by-development}
 use Rattle.layout.specs.Checks.{Whole}
 use Rattle.chain.specs.declared.figures.Figures.{Figures}
-use Rattle.chain.specs.Arrays.{figuresOf, cell}
+use Rattle.chain.specs.Arrays.{figuresOf, cell, cell-at, cell-mirrored}
 use Rattle.chain.specs.Held.{tab-cong}
 use Rattle.figures.specs.Reading.{ColumnWeights, PriorWeights, PriorMeans, Logarithms}
 use Rattle.figures.specs.Weights.{at, Adds, RatioWeights, Shares, SharesOf, Owns, OwnWeights}
@@ -110,11 +112,22 @@ module _ (f : Bytes) (h : AcceptedFile f) where
       own-list : tabFrom 0 (parts (F .last)) (at (F .own)) ≡ tabFrom 0 (parts (lastYear f)) (own (chainOf f))
       own-list = ap (λ n. tabFrom 0 (parts n) (at (F .own))) years ∙ tab-cong 0 (parts (lastYear f)) (λ k _ to. own-is c p o k (omega arith))
 
+      -- an entry on or below the diagonal is the one that is filled, and one above it is that of its mirror
+      filled : (k j : ℕ) → k < parts (lastYear f) → j < parts (lastYear f) → j ≤ k → cell (F .matrix) k j ≡ matrix (chainOf f) k j
+      filled k j k-below j-below before = cell-at (F .matrix) k j before ∙ A .whole .there k k-below j j-below ∙ entry-agrees f (F .own) sums (own-is c p o) shared k j k-below j-below
+
+      cell-is : (k j : ℕ) → k < parts (lastYear f) → j < parts (lastYear f) → cell (F .matrix) k j ≡ matrix (chainOf f) k j
+      cell-is k j k-below j-below = by-side (decLe j k)
+        where
+          by-side : Dec (j ≤ k) → cell (F .matrix) k j ≡ matrix (chainOf f) k j
+          by-side (yes before) = filled k j k-below j-below before
+          by-side (no after) =
+              cell-mirrored (F .matrix) k j ∙ filled j k j-below k-below (omega (arith, after)) ∙ matrix-symmetric (chainOf f) j k j-below k-below
+
       rows : tabFrom 0 (parts (F .last)) (λ k. tabFrom 0 (parts (F .last)) (cell (F .matrix) k)) ≡ tabFrom 0 (parts (lastYear f)) (λ k. tabFrom 0 (parts (lastYear f)) (matrix (chainOf f) k))
       rows =
           ap (λ n. tabFrom 0 (parts n) (λ k. tabFrom 0 (parts n) (cell (F .matrix) k))) years
-          ∙ tab-cong 0 (parts (lastYear f)) (λ k _ k-to. tab-cong 0 (parts (lastYear f)) (λ j _ j-to.
-          A .whole .there k (omega arith) j (omega arith) ∙ entry-agrees f (F .own) sums (own-is c p o) shared k j (omega arith) (omega arith)))
+          ∙ tab-cong 0 (parts (lastYear f)) (λ k _ k-to. tab-cong 0 (parts (lastYear f)) (λ j _ j-to. cell-is k j (omega arith) (omega arith)))
 
       targets : tabFrom 0 (parts (F .last)) (part (F .«right_hand»)) ≡ tabFrom 0 (parts (lastYear f)) (rightHand (chainOf f))
       targets =

@@ -1,8 +1,10 @@
 -- Laws of `total`, the finite sum of naturals, and of `sizes`, the sum of the sizes of whole numbers: it bounds the size of their sum, and of each
 -- shorter sum.
-use mathlib.Core.Path.{_≡_, refl, sym, _∙_, ap, ap₂}
+use mathlib.Core.Path.{_≡_, refl, sym, _∙_, ap, ap₂, subst}
+use mathlib.Core.Logic.{_≢_}
 use Prim.Native.Nat.{ℕ, zero, suc, _+_, _*_, _-_, _≤_, _<_, zero-le}
 use native.Mathlib.Nat.{le-trans, add-le-add, add-zero, add-suc}
+use native.Mathlib.Decide.{ℕ-discrete}
 use native.Mathlib.Numerals.{add-one}
 use native.Mathlib.Omega.{arith}
 use lib.IntN.{ℤ, pos, natAbs, _+ℤ_}
@@ -38,6 +40,19 @@ pub total-bound : (n b : ℕ) {f : ℕ → ℕ} → ((k : ℕ) → k < n → f k
 unfolding total
 total-bound zero b h = zero-le
 total-bound (suc n) b h = omega (arith, total-bound n b (λ k l. h k (omega arith)), h n (omega arith))
+
+-- the same where one term, the k-th, may be more by c
+pub total-bound-but-one : (n k b c : ℕ) {f : ℕ → ℕ} → ((i : ℕ) → i < n → i ≢ k → f i ≤ b) → (k < n → f k ≤ b + c) → total n f ≤ n * b + c
+unfolding total
+total-bound-but-one zero k b c others one = zero-le
+total-bound-but-one (suc n) k b c {f} others one =
+    by-place (total-bound-but-one n k b c (λ i below. others i (omega arith)) (λ below. one (omega arith))) (ℕ-discrete n k)
+  where
+    by-place : total n f ≤ n * b + c → Dec (n ≡ k) → total n f + f n ≤ suc n * b + c
+    by-place before (yes here) =
+        let last : f n ≤ b + c = subst (λ i. f i ≤ b + c) (sym here) (one (omega arith)) in
+        omega (arith, last, total-bound n b (λ i below. others i (omega arith) (λ same. omega arith)))
+    by-place before (no apart) = omega (arith, before, others n (omega arith) apart)
 
 -- the same sum, in ℤ
 pub pos-total : (n : ℕ) (f : ℕ → ℕ) → pos (total n f) ≡ sum n (λ k. pos (f k))

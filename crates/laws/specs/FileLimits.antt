@@ -1,11 +1,15 @@
 -- The sizes of an accepted file's figures: everything that the desk computes from it fits 64 bits.
 use Prim.Native.Nat.{ℕ, zero, suc, _+_, _*_, _-_, _^_, _≤_, _<_}
+use mathlib.Core.Path.{ap}
+use mathlib.Core.Logic.{_≢_}
 use native.Mathlib.Nat.{le-trans, lt-of-le-of-lt, le-refl, mul-le-mul, mul-le-mul-right}
 use native.Mathlib.Omega.{arith}
+use lib.Dec.{eqb, eqb→eq, eqb-refl, not-T}
 use lib.IntN.{ℤ, pos, natAbs, _+ℤ_, _-ℤ_, _*ℤ_}
 use Rattle.integers.specs.Linear.{linear}
 use Rattle.integers.specs.Size.{natAbs-+, natAbs-*, natAbs-*-≤, natAbs--}
 use Rattle.integers.specs.Sum.{sum}
+use Rattle.integers.specs.SumRange.{only-yes, only-no}
 use Rattle.integers.specs.Total.{total-bound, total-term, sizes, sum-size}
 use Rattle.definitions.specs.Layout.{Bytes, lastYear, closeness, parts, psiIndex, cells, rowStart, priorMean, priorVariance, paid, incurred}
 use Rattle.definitions.specs.Logarithm.{logarithm, squarings}
@@ -17,7 +21,7 @@ use Rattle.definitions.specs.Matrix.{own, matrix, rightHand, residueTimes}
 use Rattle.laws.specs.Accepted.{AcceptedFile, Within, cell-below}
 use Rattle.laws.specs.LogarithmBound.{logIn-at-most}
 use Rattle.laws.specs.PrecisionMatrix.{firstsOf}
-use Rattle.laws.specs.Sizes.{Limits, row-limit, target-limit, residue-limit}
+use Rattle.laws.specs.Sizes.{Limits, row-limit, entry-limit, target-limit, residue-limit}
 use Rattle.laws.specs.FileBounds.{observedLimit, ownLimit, shareLimit, p-to, q-to, g-to, prior-to, by-own}
 
 -- ---- logarithms of amounts
@@ -101,9 +105,20 @@ module _ (f : Bytes) (h : AcceptedFile f) where
       next : lastYear f ≤ 15 → lastYear f + 1 ≤ 16
       next h = omega arith
 
-  -- the sizes of a row of the matrix, and so each entry
+  -- the sizes of a row of the matrix
   pub row-fits : (k : ℕ) → k < parts (lastYear f) → sizes (parts (lastYear f)) (matrix (chainOf f) k) ≤ 274 * 2 ^ 27
   row-fits k below = omega (arith, row-limit (chainOf f) file-limits k below, mul-le-mul-right shareLimit years-limit)
+
+  -- the entries off the diagonal, and those on it
+  pub entry-fits : (k l : ℕ) → k < parts (lastYear f) → l < parts (lastYear f) → k ≢ l → natAbs (matrix (chainOf f) k l) ≤ 15 * 2 ^ 27
+  entry-fits k l k-below l-below apart =
+      let D : ℤ = pos (own (chainOf f) k) in
+      omega (arith, entry-limit (chainOf f) file-limits k l k-below l-below, mul-le-mul-right shareLimit (h .years .to), ap natAbs (only-no (eqb k l) D (not-T (eqb k l) (λ t. apart (eqb→eq k l t)))))
+
+  pub diagonal-fits : (k : ℕ) → k < parts (lastYear f) → natAbs (matrix (chainOf f) k k) ≤ 49 * 2 ^ 27
+  diagonal-fits k below =
+      let D : ℤ = pos (own (chainOf f) k) in
+      omega (arith, entry-limit (chainOf f) file-limits k k below below, mul-le-mul-right shareLimit (h .years .to), ap natAbs (only-yes (eqb k k) D (eqb-refl k)), file-limits .own-to k below)
 
   pub right-hand-fits : (k : ℕ) → k < parts (lastYear f) → natAbs (rightHand (chainOf f) k) ≤ 49 * 2 ^ 53
   right-hand-fits k below = omega (arith, target-limit (chainOf f) file-limits k below, mul-le-mul-right (shareLimit * observedLimit) (h .years .to))

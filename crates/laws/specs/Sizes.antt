@@ -10,7 +10,7 @@ use Rattle.integers.specs.Ring.{*ℤ-idl}
 use Rattle.integers.specs.Size.{natAbs-+, natAbs-*, natAbs-*-≤, natAbs--}
 use Rattle.integers.specs.Sum.{sum, total}
 use Rattle.integers.specs.SumRange.{only, only-yes, only-no, sum-one}
-use Rattle.integers.specs.Total.{total-cong, total-mono, total-bound, total-+, total-scale-right, total-next, total-split, total-term, pos-total, sizes, sum-size}
+use Rattle.integers.specs.Total.{total-cong, total-mono, total-bound, total-+, total-scale-right, total-next, total-split, pos-total, sizes, sum-size}
 use Rattle.definitions.specs.Layout.{parts}
 use Rattle.definitions.specs.Loss.{Vector}
 use Rattle.definitions.specs.Observations.{Chain}
@@ -98,8 +98,9 @@ module _ (c : Chain) where
     pub row-limit : (k : ℕ) → k < parts (c .last) → sizes (parts (c .last)) (matrix c k) ≤ W + c .last * (c .last + 1) * G
     row-limit k below = omega (arith, row-size k G below (shares-of k below), h .own-to k below)
 
-    pub entry-limit : (k l : ℕ) → k < parts (c .last) → l < parts (c .last) → natAbs (matrix c k l) ≤ W + c .last * (c .last + 1) * G
-    entry-limit k l k-below l-below = le-trans (total-term (parts (c .last)) l (λ i. natAbs (matrix c k i)) l-below) (row-limit k k-below)
+    -- the g that two parts share, and on the diagonal the own weight besides
+    pub entry-limit : (k l : ℕ) → k < parts (c .last) → l < parts (c .last) → natAbs (matrix c k l) ≤ natAbs (only (eqb k l) (pos (own c k))) + c .last * G
+    entry-limit k l k-below l-below = omega (arith, entry-size k l G k-below l-below (shares-of k k-below), mul-le-mul-right G (rank-below (c .last) l l-below))
 
     pub target-limit : (k : ℕ) → k < parts (c .last) → natAbs (rightHand c k) ≤ (W + c .last * G) * X
     unfolding rightHand

@@ -1,4 +1,4 @@
--- What a session is tested for besides its rows, part by part.
+-- What a session is tested for besides the entries off the diagonal, part by part.
 use Prim.Native.Nat.{ℕ, _≤_, _<_}
 use mathlib.Core.List.{List}
 use lib.IntN.{ℤ, pos, natAbs}
@@ -9,11 +9,12 @@ use Rattle.definitions.specs.Layout.{parts}
 use Rattle.definitions.specs.Refusals.{yearLimit, closenessLimit, partLimit}
 use Rattle.definitions.specs.Sweep.{sweepLimit}
 use Rattle.chain.specs.Arrays.{cell}
-use Rattle.chain.specs.Fitting.{ownLimit, rightHandLimit}
+use Rattle.chain.specs.Fitting.{ownLimit, diagonalLimit, rightHandLimit}
 
 pub record PartFits (own : ℕ) (diagonal right-hand mean : ℤ) : Type 0 where
   pub own-to : own ≤ ownLimit
   pub diagonal-from : pos 1 ≤ℤ diagonal
+  pub diagonal-to : diagonal ≤ℤ pos diagonalLimit
   pub right-hand-to : natAbs right-hand ≤ rightHandLimit
   pub mean-to : natAbs mean ≤ partLimit
 

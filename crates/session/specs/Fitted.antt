@@ -2,17 +2,18 @@
 use Prim.Native.Nat.{ℕ, _≤_, _<_}
 use mathlib.Core.Path.{_≡_, sym, ap, subst, _∙_}
 use mathlib.Core.List.{List, []}
+use native.Mathlib.Omega.{arith}
 use lib.IntN.{ℤ, pos, natAbs}
 use lib.ListN.{getD}
 use lib.Signed.{_≤ℤ_}
-use Rattle.integers.specs.Total.{total-cong, sizes}
+use Rattle.integers.specs.Linear.{linear, zarith}
 use Rattle.definitions.specs.Words.{tabFrom, part}
 use Rattle.definitions.specs.Layout.{parts}
 use Rattle.definitions.specs.Matrix.{entry}
 use Rattle.laws.specs.Judged.{tab-at}
 use Rattle.chain.specs.declared.figures.Figures.{Figures}
 use Rattle.chain.specs.Arrays.{figuresAt, figuresOf, cell}
-use Rattle.chain.specs.Fitting.{Inside, rowLimit, ownLimit, rightHandLimit}
+use Rattle.chain.specs.Fitting.{Inside, entryLimit, diagonalLimit, ownLimit, rightHandLimit}
 use Rattle.chain.specs.Residues.{RowsFit, OfMean}
 use Rattle.session.specs.Bounds.{FrameFits}
 use Rattle.session.specs.State.{Fits, sessionAt}
@@ -31,12 +32,17 @@ module _ (F : Figures) where
   unfolding figuresOf
   right-hand-at k below = tab-at (parts (F .last)) (part (F .«right_hand»)) k (pos 0) below
 
-  row-at : (k : ℕ) → k < parts (F .last) → sizes (parts (F .last)) (entry (figuresOf F) k) ≡ sizes (parts (F .last)) (cell (F .matrix) k)
-  row-at k below = total-cong (parts (F .last)) (λ l l-below. ap natAbs (entry-of k l below l-below))
-
 module _ {last closeness total : ℕ} {D : List ℕ} {A b μ : List ℤ} where
-  pub asks-residues : FrameFits last closeness total D A b μ → {ν : List ℤ} → Inside (parts last) ν → OfMean last b ν
-  asks-residues h inside = record { years = h .years; inside = inside; right-hand = λ k below. h .parts-fit k below .right-hand-to }
+  pub asks-residues : FrameFits last closeness total D A b μ → {ν : List ℤ} → Inside (parts last) ν → OfMean last A b ν
+  asks-residues h inside = record {
+    years = h .years;
+    inside = inside;
+    diagonal = λ k below. between (h .parts-fit k below .diagonal-from) (h .parts-fit k below .diagonal-to);
+    right-hand = λ k below. h .parts-fit k below .right-hand-to;
+  }
+    where
+      between : {d : ℤ} → pos 1 ≤ℤ d → d ≤ℤ pos diagonalLimit → natAbs d ≤ diagonalLimit
+      between from to = simp linear (omega zarith)
 
   pub held-inside : FrameFits last closeness total D A b μ → Inside (parts last) μ
   held-inside h = record { small = λ k below. h .parts-fit k below .mean-to }
@@ -50,8 +56,9 @@ module _ {last closeness total : ℕ} {D : List ℕ} {A b μ : List ℤ} where
       years = h .years;
       close = h .close;
       own-weights = λ k below. subst (λ n. n ≤ ownLimit) (sym (own-at (figuresAt last closeness D A b) k below)) (h .parts-fit k below .own-to);
-      rows = λ k below. subst (λ n. n ≤ rowLimit) (sym (row-at (figuresAt last closeness D A b) k below)) (rows k below);
+      entries = λ k below l before. subst (λ z. natAbs z ≤ entryLimit) (sym (entry-of (figuresAt last closeness D A b) k l below (omega arith))) (rows k below l before);
       diagonal = λ k below. subst (λ z. pos 1 ≤ℤ z) (sym (entry-of (figuresAt last closeness D A b) k k below below)) (h .parts-fit k below .diagonal-from);
+      diagonal-to = λ k below. subst (λ z. z ≤ℤ pos diagonalLimit) (sym (entry-of (figuresAt last closeness D A b) k k below below)) (h .parts-fit k below .diagonal-to);
       right-hand = λ k below. subst (λ z. natAbs z ≤ rightHandLimit) (sym (right-hand-at (figuresAt last closeness D A b) k below)) (h .parts-fit k below .right-hand-to);
     };
     inside = held-inside h;
@@ -69,6 +76,7 @@ module _ {last closeness total : ℕ} {D : List ℕ} {A b μ : List ℤ} where
       parts-fit = λ k below. record {
         own-to = subst (λ n. n ≤ ownLimit) (own-at (figuresAt last closeness D A b) k below) (h .fitting .own-weights k below);
         diagonal-from = subst (λ z. pos 1 ≤ℤ z) (entry-of (figuresAt last closeness D A b) k k below below) (h .fitting .diagonal k below);
+        diagonal-to = subst (λ z. z ≤ℤ pos diagonalLimit) (entry-of (figuresAt last closeness D A b) k k below below) (h .fitting .diagonal-to k below);
         right-hand-to = subst (λ z. natAbs z ≤ rightHandLimit) (right-hand-at (figuresAt last closeness D A b) k below) (h .fitting .right-hand k below);
         mean-to = h .inside .small k below;
       };
@@ -76,4 +84,4 @@ module _ {last closeness total : ℕ} {D : List ℕ} {A b μ : List ℤ} where
 
     pub rows : RowsFit A (parts last)
     unfolding figuresOf
-    rows k below = subst (λ n. n ≤ rowLimit) (row-at (figuresAt last closeness D A b) k below) (h .fitting .rows k below)
+    rows k below l before = subst (λ z. natAbs z ≤ entryLimit) (entry-of (figuresAt last closeness D A b) k l below (omega arith)) (h .fitting .entries k below l before)

@@ -11,7 +11,6 @@ use lib.Dec.{T}
 use lib.IntN.{ℤ, pos, natAbs}
 use lib.ListN.{getD}
 use lib.Signed.{leZ, leZ-yes}
-use Rattle.integers.specs.Total.{sizes}
 use Rattle.definitions.specs.Words.{part}
 use Rattle.definitions.specs.Layout.{parts}
 use Rattle.definitions.specs.Refusals.{yearLimit, closenessLimit, partLimit}
@@ -20,7 +19,7 @@ use Rattle.definitions.specs.Matrix as D
 use Rattle.definitions.specs.Sweep.{sweepLimit}
 use Rattle.definitions.specs.Machine.{State, empty, holds}
 use Rattle.chain.specs.Arrays.{figuresAt, figuresOf, meanOf}
-use Rattle.chain.specs.Fitting.{Fitting, Inside, rowLimit, ownLimit, rightHandLimit}
+use Rattle.chain.specs.Fitting.{Fitting, Inside, entryLimit, diagonalLimit, ownLimit, rightHandLimit}
 use Rattle.session.specs.declared.Session.{Session}
 
 -- a session whose parts are lent one by one
@@ -70,21 +69,24 @@ decFitting : (F : D.Figures) → Dec (Fitting F)
 decFitting F =
     all (decLe (F .last) yearLimit) (decLe (F .closeness) closenessLimit)
     (every (parts (F .last)) (λ k. getD (F .own) k 0 ≤ ownLimit) (λ k. decLe (getD (F .own) k 0) ownLimit))
-    (every (parts (F .last)) (λ k. sizes (parts (F .last)) (entry F k) ≤ rowLimit) (λ k. decLe (sizes (parts (F .last)) (entry F k)) rowLimit))
+    (every (parts (F .last)) (λ k. (l : ℕ) → l < k → natAbs (entry F k l) ≤ entryLimit) (λ k. every k (λ l. natAbs (entry F k l) ≤ entryLimit) (λ l. decLe (natAbs (entry F k l)) entryLimit)))
     (every (parts (F .last)) (λ k. T (leZ (pos 1) (entry F k k))) (λ k. test (leZ (pos 1) (entry F k k))))
+    (every (parts (F .last)) (λ k. T (leZ (entry F k k) (pos diagonalLimit))) (λ k. test (leZ (entry F k k) (pos diagonalLimit))))
     (every (parts (F .last)) (λ k. natAbs (part (F .rightHand) k) ≤ rightHandLimit) (λ k. decLe (natAbs (part (F .rightHand) k)) rightHandLimit))
   where
     all : Dec (F .last ≤ yearLimit) → Dec (F .closeness ≤ closenessLimit) → Dec ((k : ℕ) → k < parts (F .last) → getD (F .own) k 0 ≤ ownLimit)
-        → Dec ((k : ℕ) → k < parts (F .last) → sizes (parts (F .last)) (entry F k) ≤ rowLimit) → Dec ((k : ℕ) → k < parts (F .last) → T (leZ (pos 1) (entry F k k)))
+        → Dec ((k : ℕ) → k < parts (F .last) → (l : ℕ) → l < k → natAbs (entry F k l) ≤ entryLimit) → Dec ((k : ℕ) → k < parts (F .last) → T (leZ (pos 1) (entry F k k)))
+        → Dec ((k : ℕ) → k < parts (F .last) → T (leZ (entry F k k) (pos diagonalLimit)))
         → Dec ((k : ℕ) → k < parts (F .last) → natAbs (part (F .rightHand) k) ≤ rightHandLimit) → Dec (Fitting F)
-    all (no a) b c d e f = no (λ h. a (h .years))
-    all (yes a) (no b) c d e f = no (λ h. b (h .close))
-    all (yes a) (yes b) (no c) d e f = no (λ h. c (h .own-weights))
-    all (yes a) (yes b) (yes c) (no d) e f = no (λ h. d (h .rows))
-    all (yes a) (yes b) (yes c) (yes d) (no e) f = no (λ h. e (λ k below. h .diagonal k below .le))
-    all (yes a) (yes b) (yes c) (yes d) (yes e) (no f) = no (λ h. f (h .right-hand))
-    all (yes a) (yes b) (yes c) (yes d) (yes e) (yes f) =
-        yes (record { years = a; close = b; own-weights = c; rows = d; diagonal = λ k below. leZ-yes (e k below); right-hand = f })
+    all (no a) b c d e f g = no (λ h. a (h .years))
+    all (yes a) (no b) c d e f g = no (λ h. b (h .close))
+    all (yes a) (yes b) (no c) d e f g = no (λ h. c (h .own-weights))
+    all (yes a) (yes b) (yes c) (no d) e f g = no (λ h. d (h .entries))
+    all (yes a) (yes b) (yes c) (yes d) (no e) f g = no (λ h. e (λ k below. h .diagonal k below .le))
+    all (yes a) (yes b) (yes c) (yes d) (yes e) (no f) g = no (λ h. f (λ k below. h .diagonal-to k below .le))
+    all (yes a) (yes b) (yes c) (yes d) (yes e) (yes f) (no g) = no (λ h. g (h .right-hand))
+    all (yes a) (yes b) (yes c) (yes d) (yes e) (yes f) (yes g) =
+        yes (record { years = a; close = b; own-weights = c; entries = d; diagonal = λ k below. leZ-yes (e k below); diagonal-to = λ k below. leZ-yes (f k below); right-hand = g })
 
 pub decFits : (s : Session) → Dec (Fits s)
 decFits s =

@@ -1,6 +1,6 @@
 // The test of what a session holds. No value carries a proof, so every call tests what its arithmetic needs; a session that
-// fails it counts as empty. None that `open` made ever fails it. The rows of the matrix are tested where they are multiplied
-// (`chain::residues`), all else here.
+// fails it counts as empty. None that `open` made ever fails it. The matrix's entries off the diagonal are tested where
+// they are multiplied (`chain::residues`), all else here.
 ghost use Rattle.chain.specs.Decides.{Decides};
 ghost use Rattle.session.specs.Bounds.{PartFits, PartsFit, OfBounds, FrameFits};
 ghost use Rattle.session.specs.State.{Fits, sessionAt};
@@ -15,6 +15,9 @@ fn part_fits(own: u64, diagonal: i64, right_hand: i64, mean: i64) -> bool
         return false;
     }
     if diagonal < 1 {
+        return false;
+    }
+    if 8589934592 < diagonal {
         return false;
     }
     if 576460752303423488 < size(right_hand) {
@@ -46,7 +49,7 @@ fn parts_fit<'a>(
     true
 }
 
-// Whether something is held, and all but the rows is inside the bounds.
+// Whether something is held, and all but the entries off the diagonal is inside the bounds.
 pub fn frame_fits<'a>(
     last: usize,
     closeness: u64,

@@ -1,53 +1,94 @@
--- The residues of a mean. Shown: the rows of the parts below k fit, and those parts have their residues. Assumes nothing.
-use Prim.Native.Nat.{ℕ, _-_, _^_, _≤_, _<_}
-use mathlib.Core.Path.{_≡_, refl, sym, ap, ap₂, _∙_}
+-- The residues of a mean. Shown: the rows below k fit, and the residues of the parts below k have their first k products. Assumes nothing.
+use Prim.Native.Nat.{ℕ, _+_, _*_, _-_, _^_, _≤_, _<_}
+use mathlib.Core.Path.{_≡_, refl, sym, ap, ap₂, _∙_, subst}
 use mathlib.Core.Bool.{false≢true}
-use mathlib.Core.List.{List}
+use mathlib.Core.List.{List, [], _∷_}
+use native.Mathlib.Nat.{le-refl}
 use native.Mathlib.Omega.{arith}
-use lib.IntN.{ℤ, pos, natAbs, _-ℤ_, _*ℤ_}
+use lib.IntN.{ℤ, pos, natAbs, _+ℤ_, _-ℤ_, _*ℤ_}
+use lib.ListN.{set}
 use denote.Ref.{now}
 use mir.Syntax.{w64}
-use Rattle.integers.specs.Size.{fits, kept}
-use Rattle.integers.specs.Sum.{sum}
+use Rattle.integers.specs.Size.{fits, kept, natAbs-*-≤}
+use Rattle.integers.specs.Solver.{ring, _⊞_, _⊟_, _≐_}
+use Rattle.integers.specs.Sum.{sum, sum-next}
+use Rattle.integers.specs.Total.{sizes, total-next}
 use Rattle.definitions.specs.Words.{part}
 use Rattle.definitions.specs.Layout.{parts}
-use Rattle.definitions.specs.Matrix.{residue}
-use Rattle.chain.specs.Arrays.{meanOf, system, cell}
+use Rattle.definitions.specs.Refusals.{partLimit}
+use Rattle.chain.specs.Arrays.{meanOf, cell, cell-at, cell-mirrored}
 use Rattle.chain.specs.Bits.{stored, read}
 use Rattle.chain.specs.Decides.{decided-yes, decided-no, not-yes, not-no}
-use Rattle.chain.specs.Residues.{OfMean, RowFits}
-use Rattle.chain.specs.Fitting.{rightHandLimit}
-use Rattle.chain.specs.Sizes.{mean-at, residue-at, sum-fits, difference-fits}
-use Rattle.chain.specs.Turned.{Turned, turned-none, turned-next, zeros-at, here-or-before}
+use Rattle.chain.specs.Fitting.{Inside, rowLimit, rightHandLimit}
+use Rattle.chain.specs.Residues.{OfMean, RowFits, RowsFit}
+use Rattle.chain.specs.Sizes.{row-fits, sum-fits, difference-fits, mean-at, residue-at}
+use Rattle.chain.specs.Turned.{Turned, turned-none, turned-next, turned-as, zeros-at, here-or-before}
 use Rattle.chain.proofs.residues.residues.Statement.{statement}
 use Rattle.chain.proofs.residues.residues.Tie as tie
 
--- a row that fits, and the right-hand side taken from it
-module _ (A : List ℤ) {last : ℕ} {b μ : List ℤ} (h : OfMean last b μ) (k : ℕ) (below : k < parts last) (row : RowFits A (parts last) k) (z : ℤ)
-    (sums : z ≡ sum (parts last) (λ l. cell A k l *ℤ part μ l)) where
-  abbrev products : ℤ
-  products = sum (parts last) (λ l. cell A k l *ℤ part μ l)
+-- the residue of part i by its first n products
+abbrev soFar : List ℤ → List ℤ → List ℤ → ℕ → ℕ → ℤ
+soFar A b μ n i = sum n (λ l. cell A i l *ℤ part μ l) -ℤ part b i
 
-  small : (y : ℤ) → natAbs y ≤ rightHandLimit → natAbs (products -ℤ y) < 2 ^ 63
-  small y y-small = omega (arith, difference-fits A μ k (parts last) row (h .inside) y y-small)
+-- the first n rows fit
+module _ {last : ℕ} {A b μ : List ℤ} (h : OfMean last A b μ) (n : ℕ) (few : n ≤ parts last) (rows : RowsFit A n) where
+  inside : Inside n μ
+  inside = record { small = λ i below. h .inside .small i (omega arith) }
 
-  difference : stored z -ℤ stored (part b k) ≡ products -ℤ part b k
-  difference = ap₂ _-ℤ_ (ap stored sums ∙ read products (omega (arith, sum-fits A μ k (parts last) row (h .inside)))) (read (part b k) (omega (arith, h .right-hand k below)))
+  row-small : (i : ℕ) → i < n → sizes n (cell A i) ≤ rowLimit
+  row-small i below = row-fits A n rows (omega (arith, h .years)) i below (h .diagonal i (omega arith))
 
-  difference-small : natAbs (products -ℤ part b k) < 2 ^ 63
-  difference-small = small (part b k) (h .right-hand k below)
+  products-small : (i : ℕ) → i < n → natAbs (sum n (λ l. cell A i l *ℤ part μ l)) < 2 ^ 63
+  products-small i below = omega (arith, sum-fits A μ i n (row-small i below) inside)
 
-  found : stored (stored z -ℤ stored (part b k)) ≡ residue (system last A (meanOf last b)) (part (meanOf last μ)) k
-  found =
-      kept w64 difference difference-small
-      ∙ ap (λ y. products -ℤ y) (sym (mean-at last b k below))
-      ∙ sym (residue-at last A (meanOf last b) μ k below)
+  so-far-small : (i : ℕ) → i < n → natAbs (soFar A b μ n i) ≤ rowLimit * partLimit + rightHandLimit
+  so-far-small i below = difference-fits A μ i n (row-small i below) inside (part b i) (h .right-hand i (omega arith))
+
+-- row k fits besides, and z is its sum up to the diagonal
+module _ {last : ℕ} {A b μ : List ℤ} (h : OfMean last A b μ) (k : ℕ) (below : k < parts last) (rows : RowsFit A (k + 1)) (z : ℤ)
+    (sums : z ≡ sum k (λ l. cell A k l *ℤ part μ l)) where
+  sum-read : stored z ≡ sum k (λ l. cell A k l *ℤ part μ l)
+  sum-read = ap stored sums ∙ read (sum k (λ l. cell A k l *ℤ part μ l)) (omega (arith, sum-fits A μ k k up-to-diagonal (inside h k (omega arith) (λ i i-below. rows i (omega arith)))))
+    where
+      up-to-diagonal : sizes k (cell A k) ≤ rowLimit
+      up-to-diagonal = omega (arith, total-next k (λ l. natAbs (cell A k l)), row-small h (k + 1) (omega arith) rows k (omega arith))
+
+  product : stored (part A (31 * k + k)) *ℤ stored (part μ k) ≡ cell A k k *ℤ part μ k
+  product =
+      ap₂ _*ℤ_ (ap stored (sym (cell-at A k k (le-refl k))) ∙ read (cell A k k) (omega (arith, h .diagonal k below)))
+      (read (part μ k) (omega (arith, h .inside .small k below)))
+
+  product-small : natAbs (cell A k k *ℤ part μ k) < 2 ^ 63
+  product-small = omega (arith, natAbs-*-≤ (cell A k k) (part μ k) (h .diagonal k below) (h .inside .small k below))
+
+  total : stored z +ℤ stored (stored (part A (31 * k + k)) *ℤ stored (part μ k)) ≡ sum (k + 1) (λ l. cell A k l *ℤ part μ l)
+  total = ap₂ _+ℤ_ sum-read (kept w64 product product-small) ∙ sym (sum-next k (λ l. cell A k l *ℤ part μ l))
+
+  total-small : natAbs (sum (k + 1) (λ l. cell A k l *ℤ part μ l)) < 2 ^ 63
+  total-small = products-small h (k + 1) (omega arith) rows k (omega arith)
+
+  difference : stored (stored z +ℤ stored (stored (part A (31 * k + k)) *ℤ stored (part μ k))) -ℤ stored (part b k) ≡ soFar A b μ (k + 1) k
+  difference = ap₂ _-ℤ_ (kept w64 total total-small) (read (part b k) (omega (arith, h .right-hand k below)))
+
+  difference-small : natAbs (soFar A b μ (k + 1) k) < 2 ^ 63
+  difference-small = omega (arith, so-far-small h (k + 1) (omega arith) rows k (omega arith))
+
+  -- the residues of the parts before k, with the mirrored products of row k
+  module _ {v w : List ℤ} (so-far : Turned k (soFar A b μ k) (λ i. pos 0) v) (mirrored : Turned k (λ i. part v i +ℤ cell A k i *ℤ part μ k) (part v) w) where
+    with-mirrored : (i : ℕ) → part v i ≡ soFar A b μ k i → part v i +ℤ cell A k i *ℤ part μ k ≡ soFar A b μ (k + 1) i
+    with-mirrored i is =
+        let before : ℤ = sum k (λ l. cell A i l *ℤ part μ l) in
+        let more : ℤ = cell A i k *ℤ part μ k in
+        ap₂ (λ r a. r +ℤ a *ℤ part μ k) is (cell-mirrored A k i)
+        ∙ ring (before ∷ part b i ∷ more ∷ []) (λ s b m. (s ⊟ b) ⊞ m ≐ (s ⊞ m) ⊟ b) tt
+        ∙ ap (λ s. s -ℤ part b i) (sym (sum-next k (λ l. cell A i l *ℤ part μ l)))
+
+    next : Turned (k + 1) (soFar A b μ (k + 1)) (λ i. pos 0) (set w k (stored (stored (stored z +ℤ stored (stored (part A (31 * k + k)) *ℤ stored (part μ k))) -ℤ stored (part b k))))
+    next =
+        turned-next (turned-as mirrored (λ i i-below. with-mirrored i (so-far .front i i-below)) (so-far .rest)) (omega (arith, h .years)) (kept w64 difference difference-small)
 
 abbrev Inv-loop : tie.InvT-loop
-Inv-loop last matrix right-hand mean parts found₀ k₀ found k =
-    (k ≤ parts)
-    × ((i : ℕ) → i < k → RowFits matrix parts i)
-    × Turned k (residue (system last matrix (meanOf last right-hand)) (part (meanOf last mean))) (λ i. pos 0) found
+Inv-loop last matrix right-hand mean parts found₀ k₀ found k = (k ≤ parts) × RowsFit matrix k × Turned k (soFar matrix right-hand mean k) (λ i. pos 0) found
 
 abbrev μ-loop : tie.MeasureT-loop
 μ-loop last matrix right-hand mean parts found₀ k₀ found k = parts - k
@@ -62,71 +103,110 @@ loop-holds : tie.Need-loop-holds Inv-loop μ-loop
 loop-holds c = (omega arith, λ i none. absurd (omega arith), turned-none refl (zeros-at 31))
 
 row-times-requires : tie.Need-row-times-requires Inv-loop μ-loop
-row-times-requires c κs = let s = c .before .before in record { few = omega (arith, s .pre .years); below = c .loop-test .taken; inside = s .pre .inside }
+row-times-requires c κs =
+    let at = c .before .before .loop in
+    let s = c .before .before .before in
+    let below = c .before .loop-test .taken in
+    record {
+      few = omega (arith, s .pre .years);
+      inside = record { small = λ i i-below. s .pre .inside .small i (omega arith) };
+      long = at .inv .2 .long;
+      small = λ i i-below. subst (λ r. natAbs r ≤ rowLimit * partLimit + rightHandLimit) (sym (at .inv .2 .front i i-below)) (so-far-small (s .pre) (at .k) (at .inv .0) (at .inv .1) i i-below);
+    }
 
 returns : tie.Need-returns Inv-loop μ-loop
 returns c =
-    let l = c .before .before .before in
+    let l = c .before .before .before .before in
     record {
       fit = decided-no (λ all. c .before .before .row-times .ensures .fits .when-no (not-yes (c .if1 .taken)) (all (l .before .loop .k) (l .loop-test .taken)));
       are = λ e. absurd (false≢true e);
     }
 
-mul-found : tie.Need-mul-found Inv-loop μ-loop
-mul-found c = omega arith
-
-element-copy-out-found : tie.Need-element-copy-out-found Inv-loop μ-loop
-element-copy-out-found c = let l = c .before .before .before in omega (arith, l .loop-test .taken, l .before .before .pre .years)
-
--- the row at hand
-module _ (c : tie.After-struct-told Inv-loop μ-loop) where
-  abbrev l : tie.In-loop Inv-loop μ-loop
-  l = c .before .before .before .before .before .before
+-- a row that fits
+module _ (c : tie.Else1 Inv-loop μ-loop) where
+  abbrev at : tie.At-loop Inv-loop μ-loop
+  at = c .before .before .before .before .before
 
   abbrev s : tie.Start Inv-loop μ-loop
-  s = l .before .before
+  s = at .before
 
-  this-fits : RowFits (now (s .args .matrix)) (parts (s .args .last)) (l .before .loop .k)
-  this-fits = c .before .before .before .before .before .row-times .ensures .fits .when-yes (not-no (c .before .before .before .if1 .left))
+  below : at .loop .k < parts (s .args .last)
+  below = c .before .before .before .before .loop-test .taken
 
-  this-sum : c .before .before .before .before .before .row-times .result .sum
-      ≡ sum (parts (s .args .last)) (λ i. cell (now (s .args .matrix)) (l .before .loop .k) i *ℤ part (now (s .args .mean)) i)
-  this-sum = c .before .before .before .before .before .row-times .ensures .is (not-no (c .before .before .before .if1 .left))
+  in-array : at .loop .k < 31
+  in-array = omega (arith, below, s .pre .years)
 
-  index-small : l .before .loop .k < 31
-  index-small = omega (arith, l .loop-test .taken, s .pre .years)
+  rows : RowsFit (now (s .args .matrix)) (at .loop .k + 1)
+  rows = here-or-before (RowFits (now (s .args .matrix))) (at .loop .k) (c .before .before .row-times .ensures .fits .when-yes (not-no (c .if1 .left))) (at .loop .inv .1)
 
-sub-found : tie.Need-sub-found Inv-loop μ-loop
-sub-found c =
-    let k = l c .before .loop .k in
-    fits (difference (now (s c .args .matrix)) (s c .pre) k (l c .loop-test .taken) (this-fits c) _ (this-sum c)) (difference-small (now (s c .args .matrix)) (s c .pre) k (l c .loop-test .taken) (this-fits c) _ (this-sum c))
+  sums : c .before .before .row-times .result .sum ≡ sum (at .loop .k) (λ l. cell (now (s .args .matrix)) (at .loop .k) l *ℤ part (now (s .args .mean)) l)
+  sums = c .before .before .row-times .ensures .is (not-no (c .if1 .left))
+
+mul-found : tie.Need-mul-found Inv-loop μ-loop
+mul-found c = omega (arith, in-array c)
+
+add-found : tie.Need-add-found Inv-loop μ-loop
+add-found c = omega (arith, in-array c)
 
 mul-found-2 : tie.Need-mul-found-2 Inv-loop μ-loop
-mul-found-2 c = omega (arith, index-small c)
+mul-found-2 c = omega (arith, in-array c)
+
+element-copy-out-found : tie.Need-element-copy-out-found Inv-loop μ-loop
+element-copy-out-found c = omega (arith, in-array c)
+
+mul-found-3 : tie.Need-mul-found-3 Inv-loop μ-loop
+mul-found-3 c = omega (arith, in-array (c .before))
+
+element-copy-out-found-2 : tie.Need-element-copy-out-found-2 Inv-loop μ-loop
+element-copy-out-found-2 c = in-array (c .before)
+
+mul-found-4 : tie.Need-mul-found-4 Inv-loop μ-loop
+mul-found-4 c = let e = c .before .before in fits (product (s e .pre) (at e .loop .k) (below e) (rows e) _ (sums e)) (product-small (s e .pre) (at e .loop .k) (below e) (rows e) _ (sums e))
+
+add-found-2 : tie.Need-add-found-2 Inv-loop μ-loop
+add-found-2 c = let e = c .before .before .before .before in fits (total (s e .pre) (at e .loop .k) (below e) (rows e) _ (sums e)) (total-small (s e .pre) (at e .loop .k) (below e) (rows e) _ (sums e))
+
+mul-found-5 : tie.Need-mul-found-5 Inv-loop μ-loop
+mul-found-5 c = omega (arith, in-array (c .before .before .before .before))
+
+element-copy-out-found-3 : tie.Need-element-copy-out-found-3 Inv-loop μ-loop
+element-copy-out-found-3 c = in-array (c .before .before .before .before)
+
+sub-found : tie.Need-sub-found Inv-loop μ-loop
+sub-found c = let e = c .before .before .before .before .before in fits (difference (s e .pre) (at e .loop .k) (below e) (rows e) _ (sums e)) (difference-small (s e .pre) (at e .loop .k) (below e) (rows e) _ (sums e))
+
+mul-found-6 : tie.Need-mul-found-6 Inv-loop μ-loop
+mul-found-6 c = omega (arith, in-array (c .before .before .before .before .before))
 
 array-set-from-found : tie.Need-array-set-from-found Inv-loop μ-loop
-array-set-from-found c = index-small c
+array-set-from-found c = in-array (c .before .before .before .before .before)
 
 add-k : tie.Need-add-k Inv-loop μ-loop
-add-k c = omega arith
+add-k c = omega (arith, in-array (c .before .before .before .before .before))
 
 loop-less : tie.Need-loop-less Inv-loop μ-loop
-loop-less c = omega arith
+loop-less c = omega (arith, below (c .before .before .before .before .before))
 
 loop-again : tie.Need-loop-again Inv-loop μ-loop
 loop-again c =
-    let at = l c .before .loop in (
-      omega (arith, l c .loop-test .taken),
-      here-or-before (RowFits (now (s c .args .matrix)) (parts (s c .args .last))) (at .k) (this-fits c) (at .inv .1),
-      turned-next (at .inv .2) (index-small c) (found (now (s c .args .matrix)) (s c .pre) (at .k) (l c .loop-test .taken) (this-fits c) _ (this-sum c)),
+    let e = c .before .before .before .before .before in (
+      omega (arith, below e),
+      rows e,
+      next (s e .pre) (at e .loop .k) (below e) (rows e) _ (sums e) (at e .loop .inv .2) (e .before .before .row-times .ensures .mirrored (not-no (e .if1 .left))),
     )
 
 returns-2 : tie.Need-returns-2 Inv-loop μ-loop
 returns-2 c =
     let at = c .before .loop in
+    let s = c .before .before in
+    let all : at .k ≡ parts (s .args .last) = omega (arith, at .inv .0, c .loop-test .left) in
     record {
       fit = decided-yes (λ k below. at .inv .1 k (omega arith));
-      are = λ _. record { at = λ k below. at .inv .2 .front k (omega arith) };
+      are = λ _. record {
+        at = λ k below. at .inv .2 .front k (omega arith)
+            ∙ ap₂ (λ n y. sum n (λ l. cell (now (s .args .matrix)) k l *ℤ part (now (s .args .mean)) l) -ℤ y) all (sym (mean-at (s .args .last) (now (s .args .right-hand)) k below))
+            ∙ sym (residue-at (s .args .last) (now (s .args .matrix)) (meanOf (s .args .last) (now (s .args .right-hand))) (now (s .args .mean)) k below);
+      };
     }
 
 pub residues-spec : {M : Type 1} → statement M
@@ -141,9 +221,17 @@ residues-spec =
     row-times-requires
     returns
     mul-found
-    element-copy-out-found
-    sub-found
+    add-found
     mul-found-2
+    element-copy-out-found
+    mul-found-3
+    element-copy-out-found-2
+    mul-found-4
+    add-found-2
+    mul-found-5
+    element-copy-out-found-3
+    sub-found
+    mul-found-6
     array-set-from-found
     add-k
     loop-less

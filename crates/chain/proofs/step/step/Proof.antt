@@ -1,65 +1,64 @@
 -- One step. Shown: each number that the code computes is the definitions', since none wraps; the part is set to the definitions' part, and the residues that
 -- follow speak of the same right-hand side as before. Assumes nothing.
-use Prim.Native.Nat.{ℕ, _≤_}
+use Prim.Native.Nat.{ℕ, _+_, _*_, _/_, _^_, _≤_, _<_}
 use mathlib.Core.Path.{_≡_, sym, ap, ap₂, _∙_, subst}
 use mathlib.Core.List.{List}
+use native.Mathlib.Nat.{le-refl}
 use native.Mathlib.Omega.{arith}
 use borrow.Author.Needs.{needs}
-use lib.IntN.{ℤ, pos, natAbs, _+ℤ_, _-ℤ_, _*ℤ_}
+use lib.IntN.{ℤ, pos, natAbs, _+ℤ_, _-ℤ_}
 use lib.ListN.{length}
-use lib.Signed.{_<ℤ_}
+use lib.Signed.{_<ℤ_, quotZ}
 use mir.Syntax.{w64}
 use Rattle.integers.specs.Floor.{floorDiv}
 use Rattle.integers.specs.Linear.{linear}
+use Rattle.integers.specs.Order.{nonneg-pos}
 use Rattle.integers.specs.Size.{fits, kept}
 use Rattle.definitions.specs.Words.{part}
 use Rattle.definitions.specs.Layout.{parts}
 use Rattle.definitions.specs.Sweep.{bringBack}
 use Rattle.chain.specs.declared.figures.Working.{Working}
-use Rattle.chain.specs.Arrays.{cell}
+use Rattle.chain.specs.Arrays.{cell, cell-at}
 use Rattle.chain.specs.Bits.{stored, read}
-use Rattle.chain.specs.Held.{stepped}
+use Rattle.chain.specs.Held.{moved, stepped}
 use Rattle.chain.specs.Step.{Steps}
-use Rattle.chain.specs.StepSizes.{index-below, parts-below, diagonal-small, diagonal-positive, residue-small, doubled-small, dividend-small, divisor-small, floor-small, moved-small, fresh-small, change-small, follows, done}
+use Rattle.chain.specs.StepSizes.{index-below, parts-below, diagonal-small, diagonal-positive, residue-small, half-small, dividend-small, quotient-small, moved-small, fresh-small, change-small, follows, done}
 use Rattle.chain.proofs.step.step.Statement.{statement}
 use Rattle.chain.proofs.step.step.Tie as tie
 
 module _ {last : ℕ} {A : List ℤ} {w : Working} {k : ℕ} (h : Steps last A w k) where
-  diagonal : stored (cell A k k) ≡ cell A k k
-  diagonal = read (cell A k k) (omega (arith, diagonal-small h))
+  diagonal : stored (part A (31 * k + k)) ≡ cell A k k
+  diagonal = ap stored (sym (cell-at A k k (le-refl k))) ∙ read (cell A k k) (omega (arith, diagonal-small h))
 
   old : stored (part (w .mean) k) ≡ part (w .mean) k
   old = read (part (w .mean) k) (omega (arith, h .inside .small k (h .below)))
 
-  doubled : pos 2 *ℤ stored (part (w .residues) k) ≡ pos 2 *ℤ part (w .residues) k
-  doubled = ap (λ r. pos 2 *ℤ r) (read (part (w .residues) k) (omega (arith, residue-small h)))
+  positive : pos (natAbs (cell A k k)) ≡ cell A k k
+  positive = let one = diagonal-positive h in nonneg-pos (simp linear (omega (arith, simp linear at one)))
 
-  dividend : stored (cell A k k) -ℤ stored (pos 2 *ℤ stored (part (w .residues) k)) ≡ cell A k k -ℤ pos 2 *ℤ part (w .residues) k
-  dividend = ap₂ _-ℤ_ diagonal (kept w64 doubled (omega (arith, doubled-small h)))
+  half : quotZ (stored (part A (31 * k + k))) (pos 2) ≡ pos (natAbs (cell A k k) / 2)
+  half = ap (λ a. quotZ a (pos 2)) (diagonal ∙ sym positive)
 
-  divisor : pos 2 *ℤ stored (cell A k k) ≡ pos 2 *ℤ cell A k k
-  divisor = ap (λ a. pos 2 *ℤ a) diagonal
+  half-fits : natAbs (cell A k k) / 2 < 2 ^ 63
+  half-fits = omega (arith, half-small h)
 
-  divisor-kept : stored (pos 2 *ℤ stored (cell A k k)) ≡ pos 2 *ℤ cell A k k
-  divisor-kept = kept w64 divisor (omega (arith, divisor-small h))
+  dividend : stored (quotZ (stored (part A (31 * k + k))) (pos 2)) -ℤ stored (part (w .residues) k) ≡ pos (natAbs (cell A k k) / 2) -ℤ part (w .residues) k
+  dividend = ap₂ _-ℤ_ (kept w64 half half-fits) (read (part (w .residues) k) (omega (arith, residue-small h)))
 
-  divisor-positive : pos 0 <ℤ stored (pos 2 *ℤ stored (cell A k k))
-  divisor-positive = let one = diagonal-positive h in subst (λ d. pos 0 <ℤ d) (sym divisor-kept) (simp linear (omega (arith, simp linear at one)))
+  divisor-positive : pos 0 <ℤ stored (part A (31 * k + k))
+  divisor-positive = let one = diagonal-positive h in subst (λ d. pos 0 <ℤ d) (sym diagonal) (simp linear (omega (arith, simp linear at one)))
 
   -- q is what `floor` gives, and z what `brought_back` gives
-  module _ (q : ℤ) (q-is : q ≡ floorDiv (stored (stored (cell A k k) -ℤ stored (pos 2 *ℤ stored (part (w .residues) k)))) (natAbs (stored (pos 2 *ℤ stored (cell A k k))))) where
-    quotient : q ≡ floorDiv (cell A k k -ℤ pos 2 *ℤ part (w .residues) k) (natAbs (pos 2 *ℤ cell A k k))
-    quotient = q-is ∙ ap₂ (λ x d. floorDiv x (natAbs d)) (kept w64 dividend (omega (arith, dividend-small h))) divisor-kept
+  module _ (q : ℤ) (q-is : q ≡ floorDiv (stored (stored (quotZ (stored (part A (31 * k + k))) (pos 2)) -ℤ stored (part (w .residues) k))) (natAbs (stored (part A (31 * k + k))))) where
+    quotient : q ≡ moved A w k
+    quotient = q-is ∙ ap₂ (λ x d. floorDiv x (natAbs d)) (kept w64 dividend (omega (arith, dividend-small h))) diagonal
 
-    quotient-kept : stored q ≡ floorDiv (cell A k k -ℤ pos 2 *ℤ part (w .residues) k) (natAbs (pos 2 *ℤ cell A k k))
-    quotient-kept = kept w64 quotient (omega (arith, floor-small h (natAbs (pos 2 *ℤ cell A k k))))
-
-    moved : stored (part (w .mean) k) +ℤ stored q ≡ part (w .mean) k +ℤ floorDiv (cell A k k -ℤ pos 2 *ℤ part (w .residues) k) (natAbs (pos 2 *ℤ cell A k k))
-    moved = ap₂ _+ℤ_ old quotient-kept
+    sum : stored (part (w .mean) k) +ℤ stored q ≡ part (w .mean) k +ℤ moved A w k
+    sum = ap₂ _+ℤ_ old (kept w64 quotient (omega (arith, quotient-small h)))
 
     module _ (z : ℤ) (z-is : z ≡ bringBack (stored (stored (part (w .mean) k) +ℤ stored q))) where
       fresh : z ≡ stepped A w k
-      fresh = z-is ∙ ap bringBack (kept w64 moved (moved-small h (natAbs (pos 2 *ℤ cell A k k))))
+      fresh = z-is ∙ ap bringBack (kept w64 sum (moved-small h))
 
       fresh-kept : stored z ≡ stepped A w k
       fresh-kept = kept w64 fresh (omega (arith, fresh-small h))
@@ -95,26 +94,23 @@ mul-old c = omega (arith, index-below (c .before .pre))
 element-copy-out-old : tie.Need-element-copy-out-old
 element-copy-out-old c = omega (arith, index-below (c .before .pre))
 
+div-floor : tie.Need-div-floor
+div-floor c = let h = c .before .before .pre in (omega arith, fits (half h) (half-fits h))
+
 mul-floor : tie.Need-mul-floor
 mul-floor c = omega (arith, index-below (c .before .before .pre))
 
 element-copy-out-floor : tie.Need-element-copy-out-floor
 element-copy-out-floor c = omega (arith, index-below (c .before .before .pre))
 
-mul-floor-2 : tie.Need-mul-floor-2
-mul-floor-2 c = let h = c .before .before .before .pre in fits (doubled h) (omega (arith, doubled-small h))
-
 sub-floor : tie.Need-sub-floor
 sub-floor c = let h = c .before .before .before .pre in fits (dividend h) (omega (arith, dividend-small h))
-
-mul-floor-3 : tie.Need-mul-floor-3
-mul-floor-3 c = let h = c .before .before .before .pre in fits (divisor h) (omega (arith, divisor-small h))
 
 floor-requires : tie.Need-floor-requires
 floor-requires c κs = divisor-positive (c .before .before .before .pre)
 
 add-brought-back : tie.Need-add-brought-back
-add-brought-back c = let h = c .before .before .before .before .pre in fits (moved h (c .floor .result) (c .floor .ensures)) (moved-small h _)
+add-brought-back c = let h = c .before .before .before .before .pre in fits (sum h (c .floor .result) (c .floor .ensures)) (moved-small h)
 
 brought-back-requires : tie.Need-brought-back-requires
 brought-back-requires c κs = search needs
@@ -156,11 +152,10 @@ step-spec =
     element-copy-out-diagonal
     mul-old
     element-copy-out-old
+    div-floor
     mul-floor
     element-copy-out-floor
-    mul-floor-2
     sub-floor
-    mul-floor-3
     floor-requires
     add-brought-back
     brought-back-requires

@@ -10,7 +10,7 @@ use mir.Syntax.{w64}
 use mir.Val.{toZ, ofZ}
 use mir.Facts.{toZ-ofZ}
 use Rattle.chain.specs.Decides.{decided-yes, decided-no}
-use borrow.Author.Needs.{needs}
+use Rattle.chain.specs.Fitting.{diagonalLimit}
 use Rattle.session.proofs.bounds.part_fits.Statement.{statement}
 use Rattle.session.proofs.bounds.part_fits.Tie as tie
 
@@ -31,29 +31,33 @@ returns c = decided-no (λ fits. omega (arith, c .if1 .taken, fits .own-to))
 returns-2 : tie.Need-returns-2
 returns-2 c = let s = c .before .before in decided-no (λ fits. clashℤ (subst (λ d. d <ℤ pos 1) (diagonal-read s) (ltZ-yes (subst T (sym (c .if2 .taken)) tt))) (fits .diagonal-from))
 
+returns-3 : tie.Need-returns-3
+returns-3 c = let s = c .before .before .before in decided-no (λ fits. clashℤ (subst (λ d. pos diagonalLimit <ℤ d) (diagonal-read s) (ltZ-yes (subst T (sym (c .if3 .taken)) tt))) (fits .diagonal-to))
+
 size-requires : tie.Need-size-requires
 size-requires c κs = search needs
 
-returns-3 : tie.Need-returns-3
-returns-3 c = decided-no (λ fits. omega (arith, c .if3 .taken, c .before .size .ensures ∙ ap natAbs (right-hand-read (c .before .before .before .before)), fits .right-hand-to))
+returns-4 : tie.Need-returns-4
+returns-4 c = decided-no (λ fits. omega (arith, c .if4 .taken, c .before .size .ensures ∙ ap natAbs (right-hand-read (c .before .before .before .before .before)), fits .right-hand-to))
 
 size-requires-2 : tie.Need-size-requires-2
 size-requires-2 c κs = search needs
 
-returns-4 : tie.Need-returns-4
-returns-4 c = decided-no (λ fits. omega (arith, c .if4 .taken, c .before .size2 .ensures ∙ ap natAbs (mean-read (c .before .before .before .before .before .before)), fits .mean-to))
-
 returns-5 : tie.Need-returns-5
-returns-5 c =
-    let s = c .before .before .before .before .before .before in
+returns-5 c = decided-no (λ fits. omega (arith, c .if5 .taken, c .before .size2 .ensures ∙ ap natAbs (mean-read (c .before .before .before .before .before .before .before)), fits .mean-to))
+
+returns-6 : tie.Need-returns-6
+returns-6 c =
+    let s = c .before .before .before .before .before .before .before in
     decided-yes (record {
-      own-to = omega (arith, c .before .before .before .before .before .if1 .left);
-      diagonal-from = subst (λ d. pos 1 ≤ℤ d) (diagonal-read s) (ltZ-no (subst (λ b. T (not b)) (sym (c .before .before .before .before .if2 .left)) tt));
-      right-hand-to = omega (arith, c .before .before .if3 .left, c .before .before .before .size .ensures ∙ ap natAbs (right-hand-read s));
-      mean-to = omega (arith, c .if4 .left, c .before .size2 .ensures ∙ ap natAbs (mean-read s));
+      own-to = omega (arith, c .before .before .before .before .before .before .if1 .left);
+      diagonal-from = subst (λ d. pos 1 ≤ℤ d) (diagonal-read s) (ltZ-no (subst (λ b. T (not b)) (sym (c .before .before .before .before .before .if2 .left)) tt));
+      diagonal-to = subst (λ d. d ≤ℤ pos diagonalLimit) (diagonal-read s) (ltZ-no (subst (λ b. T (not b)) (sym (c .before .before .before .before .if3 .left)) tt));
+      right-hand-to = omega (arith, c .before .before .if4 .left, c .before .before .before .size .ensures ∙ ap natAbs (right-hand-read s));
+      mean-to = omega (arith, c .if5 .left, c .before .size2 .ensures ∙ ap natAbs (mean-read s));
     })
 
 pub part-fits-spec : {M : Type 1} → statement M
 part-fits-spec =
     tie.close
-    (tie.spec returns returns-2 size-requires returns-3 size-requires-2 returns-4 returns-5)
+    (tie.spec returns returns-2 returns-3 size-requires returns-4 size-requires-2 returns-5 returns-6)

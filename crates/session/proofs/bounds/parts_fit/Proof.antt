@@ -1,12 +1,13 @@
 -- `bounds::parts_fit` meets its contract. The loop's invariant: the parts before k fit. The measure is how many are left. Assumes nothing.
-use Prim.Native.Nat.{ℕ, _-_, _≤_, _<_}
-use mathlib.Core.Path.{subst₃}
+use Prim.Native.Nat.{ℕ, _+_, _*_, _-_, _≤_, _<_}
+use mathlib.Core.Path.{sym, _∙_, subst₃}
+use native.Mathlib.Nat.{le-refl}
 use native.Mathlib.Omega.{arith}
 use borrow.Author.Needs.{needs}
 use lib.ListN.{getD}
 use denote.Ref.{now}
 use Rattle.definitions.specs.Words.{part}
-use Rattle.chain.specs.Arrays.{cell}
+use Rattle.chain.specs.Arrays.{cell, cell-at}
 use Rattle.chain.specs.Bits.{same}
 use Rattle.chain.specs.Decides.{Decides, decided-yes, decided-no, not-yes, not-no}
 use Rattle.chain.specs.Turned.{here-or-before}
@@ -43,7 +44,7 @@ module _ (c : tie.After-part-fits Inv-loop μ-loop) where
   decided : Decides (FitsAt k) (c .part-fits .result)
   decided =
       subst₃ (λ d b m. Decides (PartFits (getD (now (s .args .own)) k 0) d b m) (c .part-fits .result))
-      (same (cell (now (s .args .matrix)) k k) (c .before .before .before .part-fits-arg2 .given))
+      (same (part (now (s .args .matrix)) (31 * k + k)) (c .before .before .before .part-fits-arg2 .given) ∙ sym (cell-at (now (s .args .matrix)) k k (le-refl k)))
       (same (part (now (s .args .right-hand)) k) (c .before .before .part-fits-arg3 .given))
       (same (part (now (s .args .mean)) k) (c .before .part-fits-arg4 .given))
       (c .part-fits .ensures)

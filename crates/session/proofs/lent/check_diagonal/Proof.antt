@@ -1,16 +1,18 @@
 -- `lent::check_diagonal` meets its contract. The loop's invariant: the entries from k on give what all of them give. The measure is how many are
 -- left. Assumes nothing.
-use Prim.Native.Nat.{_-_}
+use Prim.Native.Nat.{_+_, _*_, _-_}
 use mathlib.Core.Path.{_≡_, sym, ap, _∙_}
 use mathlib.Core.Bool.{not}
+use native.Mathlib.Nat.{le-refl}
 use native.Mathlib.Omega.{arith}
 use borrow.Author.Needs.{needs}
 use borrow.Author.Tests.{eq-eqb, ne-eqb}
 use denote.Ref.{now}
 use lib.IntN.{natAbs}
+use Rattle.definitions.specs.Words.{part}
 use Rattle.definitions.specs.Layout.{parts}
 use Rattle.layout.specs.CheckLaws.{Left, left-start, left-none, left-next, left-bad}
-use Rattle.chain.specs.Arrays.{cell}
+use Rattle.chain.specs.Arrays.{cell, cell-at}
 use Rattle.chain.specs.Bits.{same}
 use Rattle.session.specs.Diagonal.{nonZero}
 use Rattle.session.proofs.lent.check_diagonal.Statement.{statement}
@@ -48,7 +50,11 @@ size-requires c κs = search needs
 
 -- the size of the entry
 entry : (c : tie.After-size Inv-loop μ-loop) → let l = c .before .before in c .size .result ≡ natAbs (cell (now (l .before .before .args .matrix)) (l .before .loop .k) (l .before .loop .k))
-entry c = let l = c .before .before in c .size .ensures ∙ ap natAbs (same (cell (now (l .before .before .args .matrix)) (l .before .loop .k) (l .before .loop .k)) (c .before .size-arg .given))
+entry c =
+    let l = c .before .before in
+    let A = now (l .before .before .args .matrix) in
+    let k = l .before .loop .k in
+    c .size .ensures ∙ ap natAbs (same (part A (31 * k + k)) (c .before .size-arg .given) ∙ sym (cell-at A k k (le-refl k)))
 
 returns : tie.Need-returns Inv-loop μ-loop
 returns c =
