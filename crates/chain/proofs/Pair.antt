@@ -21,9 +21,9 @@ use denote.Builtin.{i64, Array}
 use denote.Steps.{owned, peeks}
 use denote.Struct.Steps.{spelt}
 use denote.Struct.Laws as LL
-use Rattle.chain.specs.declared.figures.Working.{Working}
-use Rattle.chain.proofs.figures.Working as T
-use Rattle.chain.proofs.figures.Working.Laws as T′
+use Rattle.chain.specs.declared.arrays.Working.{Working}
+use Rattle.chain.proofs.arrays.Working as T
+use Rattle.chain.proofs.arrays.Working.Laws as T′
 
 abbrev pub Pair : RattleType
 Pair = T.the-row

@@ -9,8 +9,8 @@ use Rattle.integers.specs.Sum.{sum}
 use Rattle.definitions.specs.Words.{tabFrom, part}
 use Rattle.definitions.specs.Layout.{parts}
 use Rattle.definitions.specs.Matrix.{Figures}
-use Rattle.chain.specs.declared.figures.Figures.{Figures as FlatFigures}
-use Rattle.chain.specs.declared.figures.Working.{Working}
+use Rattle.chain.specs.declared.arrays.Figures.{Figures as FlatFigures}
+use Rattle.chain.specs.declared.arrays.Working.{Working}
 
 -- a mean, or another vector of one number for each part
 abbrev pub meanOf : ℕ → List ℤ → List ℤ

@@ -19,7 +19,7 @@ use Rattle.definitions.specs.Matrix.{residue, entry}
 use Rattle.definitions.specs.Sweep.{bringBack, change, step}
 use Rattle.laws.specs.Judged.{tab-at, tabFrom-length}
 use Rattle.laws.specs.StepLaws.{sum-set}
-use Rattle.chain.specs.declared.figures.Working.{Working}
+use Rattle.chain.specs.declared.arrays.Working.{Working}
 use Rattle.chain.specs.Arrays.{meanOf, cell, system, heldRightHand, held}
 use Rattle.chain.specs.Sizes.{mean-at, entry-at, residue-at}
 

@@ -15,7 +15,7 @@ use Rattle.definitions.specs.Refusals.{yearLimit, closenessLimit}
 use Rattle.definitions.specs.Matrix as D
 use Rattle.definitions.specs.Matrix.{passed, fails, isPassed, judgeFrom, judgement, residue}
 use Rattle.laws.specs.Judged.{tab-at}
-use Rattle.chain.specs.declared.figures.Figures.{Figures}
+use Rattle.chain.specs.declared.arrays.Figures.{Figures}
 use Rattle.chain.specs.declared.judge.Judgement.{Judgement}
 use Rattle.chain.specs.declared.judge.Judgement.the-variants.{Passed, Fails}
 use Rattle.chain.specs.Arrays.{meanOf, figuresOf}

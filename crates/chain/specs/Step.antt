@@ -8,7 +8,7 @@ use Rattle.definitions.specs.Words.{part}
 use Rattle.definitions.specs.Layout.{parts}
 use Rattle.definitions.specs.Refusals.{yearLimit, partLimit}
 use Rattle.definitions.specs.Sweep.{step}
-use Rattle.chain.specs.declared.figures.Working.{Working}
+use Rattle.chain.specs.declared.arrays.Working.{Working}
 use Rattle.chain.specs.Arrays.{meanOf, cell, held}
 use Rattle.chain.specs.Fitting.{Fitting, Inside, diagonalLimit}
 

@@ -15,7 +15,7 @@ use Rattle.definitions.specs.Words.{part}
 use Rattle.definitions.specs.Layout.{parts}
 use Rattle.definitions.specs.Refusals.{partLimit}
 use Rattle.laws.specs.StepLaws.{bringBack-inside}
-use Rattle.chain.specs.declared.figures.Working.{Working}
+use Rattle.chain.specs.declared.arrays.Working.{Working}
 use Rattle.chain.specs.Arrays.{meanOf, cell, system, heldRightHand, held}
 use Rattle.chain.specs.Fitting.{Fitting, Inside, diagonalLimit, rowLimit, rightHandLimit}
 use Rattle.chain.specs.Held.{held-difference, moved, stepped, step-is, mean-set, followed-is, held-same}

@@ -6,7 +6,7 @@ use native.Mathlib.Omega.{arith}
 use lib.IntN.{ℤ}
 use Rattle.definitions.specs.Layout.{parts}
 use Rattle.definitions.specs.Sweep.{step, sweepFrom, oneSweep}
-use Rattle.chain.specs.declared.figures.Working.{Working}
+use Rattle.chain.specs.declared.arrays.Working.{Working}
 use Rattle.chain.specs.Arrays.{meanOf, held}
 use Rattle.chain.specs.Fitting.{Fitting, Inside}
 use Rattle.chain.specs.Step.{Steps, Stepped}

@@ -15,8 +15,8 @@ use Rattle.definitions.specs.Matrix as D
 use Rattle.definitions.specs.Matrix.{residue, isPassed, passes}
 use Rattle.definitions.specs.Sweep as S
 use Rattle.definitions.specs.Sweep.{step, change, sweepFrom, oneSweep, sweeps, sweepLimit}
-use Rattle.chain.specs.declared.figures.Figures.{Figures}
-use Rattle.chain.specs.declared.figures.Working.{Working}
+use Rattle.chain.specs.declared.arrays.Figures.{Figures}
+use Rattle.chain.specs.declared.arrays.Working.{Working}
 use Rattle.chain.specs.declared.sweep.Swept.{Swept}
 use Rattle.chain.specs.Arrays.{meanOf, cell, system, figuresOf, held}
 use Rattle.chain.specs.Fitting.{Fitting, Inside}

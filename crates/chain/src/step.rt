@@ -5,7 +5,7 @@ ghost use lib.Signed.{_<ℤ_};
 ghost use Rattle.integers.specs.Floor.{floorDiv};
 ghost use Rattle.definitions.specs.Sweep.{bringBack};
 ghost use Rattle.chain.specs.Step.{Follows, Followed, Steps, Stepped};
-use crate::figures::Working;
+use crate::arrays::Working;
 
 const PART_LIMIT: i64 = 67_108_864;
 

@@ -2,7 +2,7 @@
 ghost use Rattle.chain.specs.Sweep.{OfSystem, OneSwept};
 ghost use Rattle.chain.specs.Arrays.{figuresAt};
 ghost use Rattle.chain.specs.Sweeps.{Sweeps, SweptTo};
-use crate::figures::Working;
+use crate::arrays::Working;
 use crate::judge::passes;
 use crate::step::step_in;
 

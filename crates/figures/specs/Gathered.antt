@@ -20,7 +20,7 @@ use Rattle.laws.specs.Diagonal.{matrix-symmetric}
 use Rattle.laws.specs.FileLimits.{logarithm-limit, y-limit, file-limits}
 use Rattle.laws.specs.PrecisionMatrix.{ratios-by-development}
 use Rattle.layout.specs.Checks.{Whole}
-use Rattle.chain.specs.declared.figures.Figures.{Figures}
+use Rattle.chain.specs.declared.arrays.Figures.{Figures}
 use Rattle.chain.specs.Arrays.{figuresOf, cell, cell-at, cell-mirrored}
 use Rattle.chain.specs.Held.{tab-cong}
 use Rattle.figures.specs.Reading.{ColumnWeights, PriorWeights, PriorMeans, Logarithms}

@@ -13,7 +13,7 @@ use Rattle.definitions.specs.Machine as M
 use Rattle.definitions.specs.Machine.{Answer, opened, judged, settled, going, written, State, holds, Outcome, accepted, openCall, judgeCall, sweepCall, readCall}
 use Rattle.definitions.specs.Guarantee.{Guarantee}
 use Rattle.definitions.specs.Sweep.{sweepLimit}
-use Rattle.chain.specs.declared.figures.Working.{Working}
+use Rattle.chain.specs.declared.arrays.Working.{Working}
 use Rattle.chain.specs.Sweeps.{Holds}
 use Rattle.session.specs.declared.Session.{Session}
 use Rattle.session.specs.declared.answers.OpenAnswer.{OpenAnswer}

@@ -11,7 +11,7 @@ use Rattle.definitions.specs.Words.{tabFrom, part}
 use Rattle.definitions.specs.Layout.{parts}
 use Rattle.definitions.specs.Matrix.{entry}
 use Rattle.laws.specs.Judged.{tab-at}
-use Rattle.chain.specs.declared.figures.Figures.{Figures}
+use Rattle.chain.specs.declared.arrays.Figures.{Figures}
 use Rattle.chain.specs.Arrays.{figuresAt, figuresOf, cell}
 use Rattle.chain.specs.Fitting.{Inside, entryLimit, diagonalLimit, ownLimit, rightHandLimit}
 use Rattle.chain.specs.Residues.{RowsFit, OfMean}

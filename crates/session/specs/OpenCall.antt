@@ -20,7 +20,7 @@ use Rattle.laws.specs.Diagonal.{number-16-never}
 use Rattle.layout.specs.declared.checks.Check.{Check}
 use Rattle.layout.specs.Checks.{told}
 use Rattle.layout.specs.CheckLaws.{fields-clear}
-use Rattle.chain.specs.declared.figures.Figures.{Figures}
+use Rattle.chain.specs.declared.arrays.Figures.{Figures}
 use Rattle.chain.specs.Arrays.{figuresOf, meanOf, cell}
 use Rattle.chain.specs.Fitting.{Fitting}
 use Rattle.chain.specs.AcceptedFits.{file-fits}

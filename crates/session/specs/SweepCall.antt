@@ -10,7 +10,7 @@ use Rattle.definitions.specs.Matrix.{passes}
 use Rattle.definitions.specs.Sweep.{sweeps, sweepLimit}
 use Rattle.laws.specs.MachineLaws.{sweeps-total}
 use Rattle.layout.specs.CheckLaws.{within-yes}
-use Rattle.chain.specs.declared.figures.Working.{Working}
+use Rattle.chain.specs.declared.arrays.Working.{Working}
 use Rattle.chain.specs.declared.sweep.Swept.{Swept}
 use Rattle.chain.specs.Arrays.{figuresOf, meanOf}
 use Rattle.chain.specs.Judge.{Passes}

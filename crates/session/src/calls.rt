@@ -13,7 +13,7 @@ use crate::lent::open_lent;
 use crate::lent::read_lent;
 use crate::lent::sweep_lent;
 use crate::state::empty;
-use chain::figures::Figures;
+use chain::arrays::Figures;
 
 // 22, then 1 to 10, then 16.
 pub fn open(s: Session, file: &[u8]) -> Opening

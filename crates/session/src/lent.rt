@@ -9,7 +9,7 @@ use crate::answers::ReadAnswer;
 use crate::answers::SweepAnswer;
 use crate::bounds::frame_fits;
 use crate::bounds::is_open;
-use chain::figures::Working;
+use chain::arrays::Working;
 use chain::judge::Judgement;
 use chain::judge::passes;
 use chain::judge::size;

@@ -1,7 +1,7 @@
 // The calls of the desk. A session is a value: a call takes it and, where it may change, gives it back. `lent` has the same calls
 // over a session whose arrays are lent one by one, so that none is copied. No call asks anything of its caller; each has one
 // equation with document 01's machine, refused calls included.
-use chain::figures::Figures;
+use chain::arrays::Figures;
 
 pub mod answers;
 mod bounds;

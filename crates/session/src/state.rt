@@ -3,7 +3,7 @@ ghost use mathlib.Core.Path.{_≡_};
 ghost use Rattle.session.specs.State.{stateOf};
 ghost use Rattle.definitions.specs.Machine.{State};
 use crate::Session;
-use chain::figures::Figures;
+use chain::arrays::Figures;
 
 // Nothing is open.
 pub fn empty() -> Session

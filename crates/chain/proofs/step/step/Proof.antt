@@ -17,7 +17,7 @@ use Rattle.integers.specs.Size.{fits, kept}
 use Rattle.definitions.specs.Words.{part}
 use Rattle.definitions.specs.Layout.{parts}
 use Rattle.definitions.specs.Sweep.{bringBack}
-use Rattle.chain.specs.declared.figures.Working.{Working}
+use Rattle.chain.specs.declared.arrays.Working.{Working}
 use Rattle.chain.specs.Arrays.{cell, cell-at}
 use Rattle.chain.specs.Bits.{stored, read}
 use Rattle.chain.specs.Held.{moved, stepped}

@@ -40,9 +40,9 @@ use denote.Triple.Table.{entered, cited}
 use denote.Triple.Walked.{says, needs, Stays, stay-ref, stay-none, stay-none-ref, walkOf, AllGo, goes-ref, goes-none, goes-none-ref, Walks, ends-at, walked, walk-meets}
 use denote.Exit.{yes}
 use Rattle.chain.specs.Step.{Steps, Stepped}
-use Rattle.chain.specs.declared.figures.Working.{Working}
-use Rattle.chain.proofs.figures.Working as T
-use Rattle.chain.proofs.figures.Working.Laws as T′
+use Rattle.chain.specs.declared.arrays.Working.{Working}
+use Rattle.chain.proofs.arrays.Working as T
+use Rattle.chain.proofs.arrays.Working.Laws as T′
 use Rattle.chain.proofs.Pair.{Pair, Matrix, mach, typed}
 use Rattle.chain.proofs.step.step as step
 use Rattle.chain.proofs.step.step.Symbol as step-def

@@ -49,9 +49,9 @@ use denote.Exit.{yes}
 use Rattle.definitions.specs.Layout.{parts}
 use Rattle.chain.specs.Step.{Steps, Stepped}
 use Rattle.chain.specs.Sweep.{OfSystem, OneSwept, Sweeping, parts-below, sweeping-none, steps, sweeping-next, sweeping-all}
-use Rattle.chain.specs.declared.figures.Working.{Working}
-use Rattle.chain.proofs.figures.Working as T
-use Rattle.chain.proofs.figures.Working.Laws as T′
+use Rattle.chain.specs.declared.arrays.Working.{Working}
+use Rattle.chain.proofs.arrays.Working as T
+use Rattle.chain.proofs.arrays.Working.Laws as T′
 use Rattle.chain.proofs.Pair.{Pair, Matrix, mach, typed, lies-in, lies-out}
 use Rattle.chain.proofs.step.step_in as step-in
 use Rattle.chain.proofs.step.step_in.Symbol as step-in-def

@@ -1,7 +1,7 @@
 -- The sweeps of a call. Shown: what is left to run gives the whole result, and the working mean has its residues throughout (`Running`). Assumes nothing.
 use native.Mathlib.Omega.{arith}
 use denote.Ref.{now}
-use Rattle.chain.specs.declared.figures.Figures.{Figures}
+use Rattle.chain.specs.declared.arrays.Figures.{Figures}
 use Rattle.chain.specs.Arrays.{figuresAt}
 use Rattle.chain.specs.Judge.{own-fits}
 use Rattle.chain.specs.Sweeps.{Running, sweep-asks, run-first, run-settled, run-spent, run-next, run-out}

@@ -10,7 +10,7 @@ use Rattle.definitions.specs.Layout as D
 use Rattle.definitions.specs.Matrix.{judgement}
 use Rattle.layout.specs.Checks.{told}
 use Rattle.layout.specs.CheckLaws.{passed}
-use Rattle.chain.specs.declared.figures.Figures.{Figures}
+use Rattle.chain.specs.declared.arrays.Figures.{Figures}
 use Rattle.chain.specs.Arrays.{figuresAt, figuresOf}
 use Rattle.chain.specs.Decides.{not-yes, not-no}
 use Rattle.chain.specs.Judge.{judgementOf, own-fits, judged}

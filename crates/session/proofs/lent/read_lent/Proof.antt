@@ -11,7 +11,7 @@ use Rattle.definitions.specs.Words.{part}
 use Rattle.definitions.specs.Layout.{parts, recordLength}
 use Rattle.definitions.specs.Matrix.{passes}
 use Rattle.laws.specs.Judged.{tab-at}
-use Rattle.chain.specs.declared.figures.Figures.{Figures}
+use Rattle.chain.specs.declared.arrays.Figures.{Figures}
 use Rattle.chain.specs.Arrays.{figuresAt, figuresOf, meanOf}
 use Rattle.chain.specs.Decides.{not-yes, not-no}
 use Rattle.chain.specs.Judge.{own-fits}
