@@ -9,13 +9,13 @@ use borrow.Author.Tests.{le-leb, lt-leb, leb-true, eqb-true}
 use lib.ListN.{length}
 use lib.Dec.{leb, eqb}
 use Rattle.definitions.specs.Words.{within}
-use Rattle.definitions.specs.Layout.{Bytes, unsigned, signed, lengthWord, lastYear, fileLength}
+use Rattle.definitions.specs.Layout.{Bytes, unsigned, signed, lengthWord, version, lastYear, parts, partAt, fileLength, recordLength}
 use Rattle.definitions.specs.Refusals as refusals
-use Rattle.definitions.specs.Refusals.{clear, refuses, unless, _then_, fields, goodPart, check1, check2, check3, check4, fileCheck, rowCheck}
+use Rattle.definitions.specs.Refusals.{clear, refuses, unless, _then_, fields, goodPart, check1, check2, check3, check4, fileCheck, rowCheck, recordCheck}
 use Rattle.layout.specs.declared.checks.Check.{Check}
 use Rattle.layout.specs.declared.checks.Check.the-variants.{Clear, Refuses}
 use Rattle.layout.specs.declared.checks.Run.{Run}
-use Rattle.layout.specs.Checks.{told, placeIn, unsignedRun, signedRun, lengthCheck, Whole}
+use Rattle.layout.specs.Checks.{told, placeIn, unsignedRun, signedRun, lengthCheck, recordHead, Whole}
 
 -- ---- one condition
 
@@ -70,6 +70,17 @@ stopped y e k = ap told k ∙ ap (λ z. z then y) (sym (ap told k) ∙ e)
 pub then-clear : (x y : refusals.Check) → x then y ≡ clear → (x ≡ clear) × (y ≡ clear)
 then-clear clear y e = (refl, e)
 then-clear (refuses number place) y e = (cc, cc)
+
+-- three checks, and then one more
+then-assoc : (a b c d : refusals.Check) → (a then b then c) then d ≡ a then b then c then d
+then-assoc clear clear c d = refl
+then-assoc clear (refuses number place) c d = refl
+then-assoc (refuses number place) b c d = refl
+
+-- a record's checks are those of its head, and then 11
+pub record-checks : (J : ℕ) (r : Bytes) → recordCheck J r ≡ recordHead J r then fields (λ k. goodPart (signed (partAt k) r)) 11 partAt 0 (parts J)
+unfolding recordCheck recordHead
+record-checks J r = sym (then-assoc (lengthCheck 5 r) (unless (eqb (version r) 1) 2 4) (unless (eqb (length r) (recordLength J)) 4 0) _)
 
 -- ---- the fields of a number, n of them, one after another
 

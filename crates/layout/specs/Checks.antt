@@ -5,7 +5,7 @@ use mathlib.Core.Bool.{_&&_}
 use lib.ListN.{length}
 use lib.Dec.{leb, eqb}
 use Rattle.definitions.specs.Words.{within}
-use Rattle.definitions.specs.Layout.{Bytes, unsigned, signed, lengthWord, lastYear, fileLength}
+use Rattle.definitions.specs.Layout.{Bytes, unsigned, signed, lengthWord, version, lastYear, fileLength, recordLength}
 use Rattle.definitions.specs.Refusals as refusals
 use Rattle.definitions.specs.Refusals.{unless, _then_, fields, goodPart, check2, check3, check4, check5, check6, check7, check8, check9, check10}
 use Rattle.layout.specs.declared.checks.Check.{Check}
@@ -20,6 +20,10 @@ told (Refuses number place) = refusals.refuses number place
 -- at least so many bytes, and as many as the length word says: check 1 of a file (10) and of a mean record (5)
 abbrev pub lengthCheck : ℕ → Bytes → refusals.Check
 lengthCheck least s = unless (leb least (length s) && eqb (lengthWord s) (length s)) 1 0
+
+-- the checks of a record before its parts: 1, 2, 4
+unfoldable pub recordHead : ℕ → Bytes → refusals.Check
+recordHead J r = lengthCheck 5 r then unless (eqb (version r) 1) 2 4 then unless (eqb (length r) (recordLength J)) 4 0
 
 -- ---- a run of fields
 

@@ -1,32 +1,75 @@
-// Mean records: the mean that a record holds, and the record of a mean.
+// Mean records: the mean that a record holds, or why it is refused, and the record of a mean.
 ghost use mathlib.Core.Path.{_≡_};
 ghost use mathlib.Core.List.{_∷_, _++_};
 ghost use Prim.Native.Nat.{_+_, _-_, _≤_, _^_};
-ghost use lib.ListN.{length, take, drop, replicate};
-ghost use lib.IntN.{pos, natAbs};
-ghost use Rattle.definitions.specs.Layout.{parts, recordLength, meanOf, recordOf, bytesOf, fourBytes, partBytes};
+ghost use lib.ListN.{length, take, drop};
+ghost use lib.IntN.{natAbs};
+ghost use Rattle.definitions.specs.Layout.{parts, recordLength, recordOf, bytesOf, fourBytes, partBytes};
 ghost use Rattle.records.specs.Records.{InLimits};
+ghost use Rattle.records.specs.Parse.{ParsedParts, ParsedRecord};
 use fields::SignedField;
 use fields::signed_4;
+use layout::checks::Check;
+use layout::checks::record::check_head;
 use layout::places::parts_of;
 use layout::places::record_length;
 
-// The mean of a record of the right length, zeros behind its parts.
-pub fn mean_of(last: u8, r: &[u8]) -> [i64; 31]
+// What the checks say of a record, and where they let it pass its mean, zeros behind the parts.
+pub struct Parsed {
+    pub check: Check,
+    pub mean: [i64; 31],
+}
+
+// The parts of a record of the right length, each read once: 11.
+fn parse_parts(last: u8, r: &[u8]) -> Parsed
     requires { ⌜ (last ≤ 15) × (length (now r) ≡ recordLength last) ⌝ }
-    ensures { λ m. ⌜ m ≡ meanOf last (now (r .entry)) ++ replicate (31 - parts last) (pos 0) ⌝ }
+    ensures { λ p. ⌜ ParsedParts last (now (r .entry)) p ⌝ }
 {
     let mut mean = [0i64; 31];
     let n = parts_of(last);
     let mut k = 0usize;
     while k < n {
-        let SignedField::Value(z) = signed_4(r, 5 + 4 * k) else {
-            return mean;
+        let at = 5 + 4 * k;
+        let SignedField::Value(z) = signed_4(r, at) else {
+            return Parsed {
+                check: Check::Refuses(11, at),
+                mean,
+            };
         };
+        if z < -67108864 {
+            return Parsed {
+                check: Check::Refuses(11, at),
+                mean,
+            };
+        }
+        if 67108864 < z {
+            return Parsed {
+                check: Check::Refuses(11, at),
+                mean,
+            };
+        }
         mean[k] = z;
         k += 1;
     }
-    mean
+    Parsed {
+        check: Check::Clear,
+        mean,
+    }
+}
+
+// A record for the J of an open file: 1, 2, 4 and 11.
+pub fn parse(last: u8, r: &[u8]) -> Parsed
+    requires { ⌜ last ≤ 15 ⌝ }
+    ensures { λ p. ⌜ ParsedRecord last (now (r .entry)) p ⌝ }
+{
+    let head = check_head(last, r);
+    let Check::Clear = head else {
+        return Parsed {
+            check: head,
+            mean: [0; 31],
+        };
+    };
+    parse_parts(last, r)
 }
 
 // A part in two's complement.

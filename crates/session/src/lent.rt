@@ -19,11 +19,10 @@ use chain::sweep::sweeps;
 use figures::figures_in;
 use layout::checks::Check;
 use layout::checks::file::check_file;
-use layout::checks::record::check_record;
 use layout::places::last_year;
 use layout::places::record_length;
 use readings::closeness_of;
-use records::mean_of;
+use records::parse;
 use records::write_record;
 
 // 21, then 1, 2, 4 and 11. The rows of the matrix are tested with the mean that is held where the record is refused, and with the
@@ -44,7 +43,8 @@ pub fn judge_lent<'a>(
         return JudgeAnswer::Refused(21, 0);
     }
     let year = last as u8;
-    let checked = check_record(year, lent);
+    let parsed = parse(year, lent);
+    let checked = parsed.check;
     if let Check::Refuses(number, place) = checked {
         let tested = residues(last, matrix, right_hand, mean);
         if !tested.fit {
@@ -52,7 +52,7 @@ pub fn judge_lent<'a>(
         }
         return JudgeAnswer::Refused(number, place);
     }
-    let proposed = mean_of(year, lent);
+    let proposed = parsed.mean;
     let tested = residues(last, matrix, right_hand, &proposed);
     if !tested.fit {
         return JudgeAnswer::Refused(21, 0);

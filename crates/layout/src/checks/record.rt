@@ -1,17 +1,13 @@
-// The checks of a mean record for the J of an open file: 1, 2, 4 and 11.
+// The checks of a mean record that come before its parts, for the J of an open file: 1, 2 and 4.
 ghost use mathlib.Core.Path.{_≡_};
-ghost use Rattle.definitions.specs.Refusals.{recordCheck};
-ghost use Rattle.layout.specs.Checks.{told};
+ghost use Rattle.layout.specs.Checks.{told, recordHead};
 use super::Check;
-use super::Run;
 use super::check_length;
-use super::check_signed;
 use super::check_version;
-use crate::places::parts_of;
 use crate::places::record_length;
 
-pub fn check_record(last: u8, r: &[u8]) -> Check
-    ensures { λ c. ⌜ told c ≡ recordCheck last (now (r .entry)) ⌝ }
+pub fn check_head(last: u8, r: &[u8]) -> Check
+    ensures { λ c. ⌜ told c ≡ recordHead last (now (r .entry)) ⌝ }
 {
     let length = check_length(r, 5);
     let Check::Clear = length else {
@@ -24,10 +20,5 @@ pub fn check_record(last: u8, r: &[u8]) -> Check
     if r.len() != record_length(last) {
         return Check::Refuses(4, 0);
     }
-    let run = Run {
-        first: 5,
-        stride: 4,
-        count: parts_of(last),
-    };
-    check_signed(r, 11, run)
+    Check::Clear
 }

@@ -14,11 +14,12 @@ use Rattle.chain.specs.declared.arrays.Figures.{Figures}
 use Rattle.chain.specs.Arrays.{figuresAt, figuresOf}
 use Rattle.chain.specs.Decides.{not-yes, not-no}
 use Rattle.chain.specs.Judge.{judgementOf, own-fits, judged}
+use Rattle.records.specs.Parse.{padded}
 use Rattle.session.specs.Bounds.{FrameFits}
 use Rattle.session.specs.State.{Fits, sessionAt}
 use Rattle.session.specs.CallLaws.{judges-closed, judges-refused, judges-passed, judges-fails}
 use Rattle.session.specs.Fitted.{asks-residues, held-inside, fits, frame, rows}
-use Rattle.session.specs.MeanOfRecord.{length-is, mean-inside, mean-is}
+use Rattle.session.specs.MeanOfRecord.{mean-inside, mean-is}
 use Rattle.session.proofs.lent.judge_lent.Statement.{statement}
 use Rattle.session.proofs.lent.judge_lent.Tie as tie
 
@@ -35,8 +36,8 @@ framed c = c .before .frame-fits .ensures .when-yes (not-no (c .if1 .left))
 cast-year : tie.Need-cast-year
 cast-year c = record { fits = omega (arith, framed c .years) }
 
-check-record-requires : tie.Need-check-record-requires
-check-record-requires c κs = search needs
+parse-requires : tie.Need-parse-requires
+parse-requires c κs = framed c .years
 
 enum-known-checked : tie.Need-enum-known-checked
 enum-known-checked c = search needs
@@ -49,20 +50,21 @@ returns-2 c = judges-closed _ _ (λ h. c .before .before .residues .ensures .fit
 
 returns-3 : tie.Need-returns-3
 returns-3 c =
-    judges-refused _ _ (fits (framed (c .before .before .before .before .before .before .before)) (c .before .before .residues .ensures .fit .when-yes (not-no (c .if2 .left)))) _ _ (sym (c .before .before .before .before .before .before .check-record .ensures) ∙ ap told (c .before .before .before .before .checked .given .1))
+    judges-refused _ _ (fits (framed (c .before .before .before .before .before .before .before)) (c .before .before .residues .ensures .fit .when-yes (not-no (c .if2 .left)))) _ _ (sym (c .before .before .before .before .before .before .parse .ensures .checked) ∙ ap told (c .before .before .before .before .checked .given .1))
 
 enum-told : tie.Need-enum-told
 enum-told c = search needs
 
 -- the record is not refused
 clear-record : (c : tie.After-enum-told) → let s = c .before .before .before .before .before .before .args in recordCheck (s .last) (now (s .lent)) ≡ clear
-clear-record c = passed (c .before .before .check-record .ensures) (c .enum-told .given .1)
+clear-record c = passed (c .before .before .parse .ensures .checked) (c .enum-told .given .1)
 
-mean-of-requires : tie.Need-mean-of-requires
-mean-of-requires c κs = (framed (c .before .before .before) .years, length-is _ _ (clear-record c))
+-- so its mean is read
+parsed-mean : (c : tie.After-enum-told) → let s = c .before .before .before .before .before .before .args in c .before .before .parse .result .mean ≡ padded (s .last) (now (s .lent))
+parsed-mean c = c .before .before .parse .ensures .is (ap told (c .enum-told .given .1))
 
 residues-requires-2 : tie.Need-residues-requires-2
-residues-requires-2 c κs = asks-residues (framed (c .before .before .before .before .before)) (mean-inside _ _ (clear-record (c .before .before)) (c .before .mean-of .ensures))
+residues-requires-2 c κs = asks-residues (framed (c .before .before .before .before .before)) (mean-inside _ _ (clear-record (c .before .before)) (parsed-mean (c .before .before)))
 
 returns-4 : tie.Need-returns-4
 returns-4 c = judges-closed _ _ (λ h. c .before .residues2 .ensures .fit .when-no (not-yes (c .if3 .taken)) (rows h))
@@ -89,7 +91,7 @@ verdict : (c : tie.After-test) → let s = c .before .before .before .before .be
 verdict c =
     let s = c .before .before .before .before .before .before .before .before .before .before .before .before .before in
     judged (F s) _ _ (c .before .before .before .before .residues2 .ensures .are (not-no (c .before .before .before .if3 .left))) (c .test .ensures)
-    ∙ ap (λ m. judgement (figuresOf (F s)) (part m)) (mean-is _ _ (clear-record (c .before .before .before .before .before .before .before)) (c .before .before .before .before .before .before .mean-of .ensures))
+    ∙ ap (λ m. judgement (figuresOf (F s)) (part m)) (mean-is _ _ (clear-record (c .before .before .before .before .before .before .before)) (parsed-mean (c .before .before .before .before .before .before .before)))
 
 returns-5 : tie.Need-returns-5
 returns-5 c = judges-passed _ _ (open-file (c .before .before .before .before .before)) (clear-record (c .before .before .before .before .before .before .before .before .before)) (sym (verdict (c .before .before)) ∙ ap judgementOf (c .enum-told2 .given .1))
@@ -104,13 +106,12 @@ judge-lent-spec =
     frame-fits-requires
     returns
     cast-year
-    check-record-requires
+    parse-requires
     enum-known-checked
     residues-requires
     returns-2
     returns-3
     enum-told
-    mean-of-requires
     residues-requires-2
     returns-4
     test-requires
