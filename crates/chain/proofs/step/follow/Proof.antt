@@ -131,7 +131,7 @@ mul-residues-3 c = omega (arith, place (c .before))
 
 element-copy-out-residues-2 :
     tie.Need-element-copy-out-residues-2 Inv-loop μ-loop Inv-loop2 μ-loop2
-element-copy-out-residues-2 c = place (c .before)
+element-copy-out-residues-2 c = omega (arith, place (c .before))
 
 module _ (c : tie.After-residues2 Inv-loop μ-loop Inv-loop2 μ-loop2) where
   abbrev at : tie.At-loop Inv-loop μ-loop Inv-loop2 μ-loop2
