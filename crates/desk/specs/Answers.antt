@@ -1,7 +1,7 @@
 -- What the numbers of an answer stand for: the session's answers, and so document 01's.
 use Prim.Native.Nat.{ℕ, _+_, _≤_, zero-le}
 use mathlib.Core.Path.{_≡_, refl, sym, ap, subst, _∙_}
-use mathlib.Core.Bool.{Bool, true, false, cond}
+use mathlib.Core.Bool.{cond}
 use mathlib.Core.List.{List}
 use native.Mathlib.Omega.{arith}
 use borrow.Author.Tests.{ne-eqb}
@@ -9,9 +9,9 @@ use lib.Dec.{eqb}
 use lib.IntN.{ℤ}
 use lib.ListN.{length, take, drop, getD}
 use Rattle.definitions.specs.Layout.{Bytes}
-use Rattle.definitions.specs.Refusals.{Check, clear, refuses, rowCheck}
+use Rattle.definitions.specs.Refusals.{clear, refuses, rowCheck}
 use Rattle.definitions.specs.Matrix as D
-use Rattle.definitions.specs.Machine.{Answer, State, empty, rowPart}
+use Rattle.definitions.specs.Machine.{empty, rowPart}
 use Rattle.laws.specs.Numbers.{Numbered, NumberedAnswer, row-numbered, open-numbered, judge-numbered, sweep-numbered, read-numbered}
 use Rattle.readings.specs.declared.rows.RowPlace.{RowPlace}
 use Rattle.readings.specs.Rows.{Places}
@@ -24,8 +24,6 @@ use Rattle.session.specs.declared.answers.SweepAnswer.{SweepAnswer}
 use Rattle.session.specs.declared.answers.SweepAnswer.the-variants as S
 use Rattle.session.specs.declared.answers.ReadAnswer.{ReadAnswer}
 use Rattle.session.specs.declared.answers.ReadAnswer.the-variants as R
-use Rattle.session.specs.declared.answers.Opening.{Opening}
-use Rattle.session.specs.declared.answers.Sweeping.{Sweeping}
 use Rattle.session.specs.State.{stateOf, stateOf-empty, sessionHeld}
 use Rattle.session.specs.Calls as C
 use Rattle.session.specs.Calls.{Opens, Judges, Sweeps, Reads}

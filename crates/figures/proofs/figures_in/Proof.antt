@@ -2,7 +2,6 @@
 use Prim.Native.Nat.{ℕ}
 use mathlib.Core.Path.{_≡_, refl, sym, subst}
 use mathlib.Core.List.{List}
-use native.Mathlib.Omega.{arith}
 use denote.Ref.{now}
 use Rattle.definitions.specs.Layout.{lastYear, closeness}
 use Rattle.definitions.specs.Matrix.{figuresOf as figuresOfFile}
@@ -11,7 +10,7 @@ use Rattle.figures.specs.Reading.{PriorMeans}
 use Rattle.figures.specs.Weights.{Owns, OwnWeights, Shares, SharesOf}
 use Rattle.figures.specs.Entries.{OfMatrix, MatrixOf}
 use Rattle.figures.specs.Sums.{OfRatios, RatioSums, OfTargets, Targets}
-use Rattle.figures.specs.Gathered.{file-whole, file-adds, file-owns, file-shares, file-ratios, file-targets, file-matrix, gathered}
+use Rattle.figures.specs.Gathered.{file-adds, file-owns, file-shares, file-ratios, file-targets, file-matrix, gathered}
 use borrow.Author.Needs.{needs}
 use Rattle.figures.proofs.figures_in.Statement.{statement}
 use Rattle.figures.proofs.figures_in.Tie as tie

@@ -1,6 +1,5 @@
 -- `lent::read_lent` meets its contract: after 21, 24 and 13 the record of the mean that is held is written. Assumes nothing.
 use mathlib.Core.Path.{_≡_, sym, ap, subst, _∙_}
-use mathlib.Core.Bool.{Bool}
 use mathlib.Core.List.{_++_}
 use native.Mathlib.Omega.{arith}
 use borrow.Author.Needs.{needs}
@@ -11,8 +10,7 @@ use Rattle.definitions.specs.Words.{part}
 use Rattle.definitions.specs.Layout.{parts, recordLength}
 use Rattle.definitions.specs.Matrix.{passes}
 use Rattle.laws.specs.Judged.{tab-at}
-use Rattle.chain.specs.declared.arrays.Figures.{Figures}
-use Rattle.chain.specs.Arrays.{figuresAt, figuresOf, meanOf}
+use Rattle.chain.specs.Arrays.{figuresOf, meanOf}
 use Rattle.chain.specs.Decides.{not-yes, not-no}
 use Rattle.chain.specs.Judge.{own-fits}
 use Rattle.chain.specs.Sweeps.{passes-is, started}
