@@ -48,6 +48,7 @@ extern "C" {
 const ROUND_NANOSECONDS: f64 = 1e7; // of one call, over and over
 const LISTINGS: u32 = 100; // runs of a listing program in a round
 
+const LONGEST_RECORD: usize = 129;
 const DONE: Refusal = Refusal { number: 0, place: 0 };
 
 impl Held {
@@ -78,96 +79,140 @@ impl Held {
 
 const CALLS: [&str; 5] = ["open", "judge", "one sweep", "sweep until settled", "read"];
 
-/// Both desks with one file open and its settled mean's record.
+/// What is timed of either desk; an answer is asserted, not used.
+trait Desk {
+    fn empty() -> Self;
+    fn open_anew(&mut self, file: &[u8]);
+    fn judge_passes(&self, record: &[u8]);
+    fn sweep_from(&mut self, start: &Start, n: u64) -> u64;
+    fn read_into(&self, buffer: &mut [u8]);
+    fn start(&self) -> Start;
+}
+
+/// A mean and a total, to start the sweeps of a measurement from.
+type Start = ([i64; PARTS], u64);
+
+impl Desk for Held {
+    fn empty() -> Self {
+        Held::empty()
+    }
+    fn open_anew(&mut self, file: &[u8]) {
+        self.close();
+        assert_eq!(self.open(file), DONE);
+    }
+    fn judge_passes(&self, record: &[u8]) {
+        assert_eq!(self.judge(record), Told { refusal: DONE, flag: 1, value: 0 });
+    }
+    fn sweep_from(&mut self, start: &Start, n: u64) -> u64 {
+        self.mean = start.0;
+        self.held[2] = start.1;
+        let told = self.sweep(n);
+        assert_eq!((told.refusal, told.flag), (DONE, u64::from(n > 1)));
+        told.value
+    }
+    fn read_into(&self, buffer: &mut [u8]) {
+        assert_eq!(self.read(buffer), DONE);
+    }
+    fn start(&self) -> Start {
+        (self.mean, self.held[2])
+    }
+}
+
+impl Desk for Session {
+    fn empty() -> Self {
+        Session::empty()
+    }
+    fn open_anew(&mut self, file: &[u8]) {
+        self.close();
+        assert_eq!(self.open(file), Ok(()));
+    }
+    fn judge_passes(&self, record: &[u8]) {
+        assert_eq!(self.judge(record), Ok(Judgement::Passed));
+    }
+    fn sweep_from(&mut self, start: &Start, n: u64) -> u64 {
+        self.restore(start);
+        match self.sweep(n) {
+            Ok(Sweeping::Settled(total)) if n > 1 => total,
+            Ok(Sweeping::Going(total)) if n == 1 => total,
+            other => panic!("{other:?}"),
+        }
+    }
+    fn read_into(&self, buffer: &mut [u8]) {
+        assert!(self.read(buffer).is_ok());
+    }
+    fn start(&self) -> Start {
+        self.kept()
+    }
+}
+
+/// A desk with a file open, and the same settled.
+struct Ready<D> {
+    desk: D,
+    start: Start,
+    settled: D,
+    total: u64,
+}
+
+impl<D: Desk> Ready<D> {
+    fn new(file: &[u8]) -> Self {
+        let (mut desk, mut settled) = (D::empty(), D::empty());
+        desk.open_anew(file);
+        settled.open_anew(file);
+        let start = desk.start();
+        let total = settled.sweep_from(&start, 4096);
+        assert!(total > 1, "the sample needs more than one sweep");
+        Ready { desk, start, settled, total }
+    }
+
+    fn run(&mut self, call: &str, file: &[u8], record: &[u8], times: u64) {
+        let mut buffer = [0; LONGEST_RECORD];
+        for _ in 0..times {
+            match call {
+                "open" => self.desk.open_anew(black_box(file)),
+                "judge" => self.desk.judge_passes(black_box(record)),
+                "read" => self.settled.read_into(black_box(&mut buffer)),
+                "one sweep" => drop(black_box(self.desk.sweep_from(&self.start, black_box(1)))),
+                _ => drop(black_box(self.desk.sweep_from(&self.start, black_box(4096)))),
+            }
+        }
+    }
+}
+
+/// Both desks on one file, which answer alike, and the record of its settled mean.
 struct Pair {
     file: Vec<u8>,
     record: Vec<u8>,
-    proved: Held,
-    plain: Session,
-    proved_start: ([i64; PARTS], u64),
-    plain_start: ([i64; PARTS], u64),
-    proved_settled: Held,
-    plain_settled: Session,
+    proved: Ready<Held>,
+    plain: Ready<Session>,
 }
 
 impl Pair {
-    fn new(file: Vec<u8>) -> Self {
-        let (mut proved, mut plain) = (Held::empty(), Session::empty());
-        let (mut proved_settled, mut plain_settled) = (Held::empty(), Session::empty());
-        for (held, session) in [(&mut proved, &mut plain), (&mut proved_settled, &mut plain_settled)] {
-            assert_eq!(held.open(&file), DONE);
-            assert_eq!(session.open(&file), Ok(()));
-        }
-        let told = proved_settled.sweep(4096);
-        assert_eq!((told.refusal, told.flag), (DONE, 1), "the sample settles");
-        assert!(told.value > 1, "the sample needs more than one sweep");
-        assert_eq!(plain_settled.sweep(4096), Ok(Sweeping::Settled(told.value)));
-        let mut record = vec![0; 129];
-        let mut other = vec![0; 129];
-        assert_eq!(proved_settled.read(&mut record), DONE);
-        let length = plain_settled.read(&mut other).expect("settled");
+    fn new(path: &str) -> Self {
+        let file = std::fs::read(path).expect("a file of the desk");
+        let (proved, plain) = (Ready::<Held>::new(&file), Ready::<Session>::new(&file));
+        assert_eq!((proved.start, proved.total), (plain.start, plain.total));
+        let (mut record, mut other) = (vec![0; LONGEST_RECORD], vec![0; LONGEST_RECORD]);
+        proved.settled.read_into(&mut record);
+        plain.settled.read_into(&mut other);
         assert_eq!(record, other);
-        record.truncate(length);
-        assert_eq!(plain.judge(&record), Ok(Judgement::Passed));
-        assert_eq!(proved.judge(&record), Told { refusal: DONE, flag: 1, value: 0 });
-        let proved_start = (proved.mean, proved.held[2]);
-        let plain_start = plain.kept();
-        Pair { file, record, proved, plain, proved_start, plain_start, proved_settled, plain_settled }
+        record.truncate(5 + 4 * (2 * usize::from(file[5]) + 1));
+        proved.desk.judge_passes(&record);
+        plain.desk.judge_passes(&record);
+        Pair { file, record, proved, plain }
     }
 
-    fn proved(&mut self, call: &str, times: u64) {
-        let mut buffer = [0; 129];
-        for _ in 0..times {
-            match call {
-                "open" => {
-                    self.proved.close();
-                    black_box(self.proved.open(black_box(&self.file)));
-                }
-                "judge" => {
-                    black_box(self.proved.judge(black_box(&self.record)));
-                }
-                "read" => {
-                    black_box(self.proved_settled.read(black_box(&mut buffer)));
-                }
-                _ => {
-                    self.proved.mean = self.proved_start.0;
-                    self.proved.held[2] = self.proved_start.1;
-                    black_box(self.proved.sweep(black_box(if call == "one sweep" { 1 } else { 4096 })));
-                }
-            }
+    fn run(&mut self, proved: bool, call: &str, times: u64) {
+        if proved {
+            self.proved.run(call, &self.file, &self.record, times);
+        } else {
+            self.plain.run(call, &self.file, &self.record, times);
         }
     }
 
-    fn plain(&mut self, call: &str, times: u64) {
-        let mut buffer = [0; 129];
-        for _ in 0..times {
-            match call {
-                "open" => {
-                    self.plain.close();
-                    black_box(self.plain.open(black_box(&self.file))).expect("accepted");
-                }
-                "judge" => {
-                    black_box(self.plain.judge(black_box(&self.record))).expect("open");
-                }
-                "read" => {
-                    black_box(self.plain_settled.read(black_box(&mut buffer))).expect("settled");
-                }
-                _ => {
-                    self.plain.restore(&self.plain_start);
-                    black_box(self.plain.sweep(black_box(if call == "one sweep" { 1 } else { 4096 }))).expect("open");
-                }
-            }
-        }
-    }
-
-    /// Nanoseconds of a call, over as many as take some milliseconds.
+    /// Nanoseconds of a call, over so many of them.
     fn time(&mut self, proved: bool, call: &str, times: u64) -> f64 {
         let start = Instant::now();
-        if proved {
-            self.proved(call, times);
-        } else {
-            self.plain(call, times);
-        }
+        self.run(proved, call, times);
         start.elapsed().as_nanos() as f64 / times as f64
     }
 }
@@ -184,8 +229,8 @@ fn compare(last: usize, call: &str, count: usize, mut time: impl FnMut(bool) -> 
 
 fn rounds(count: usize, files: &[String]) {
     for path in files {
-        let mut pair = Pair::new(std::fs::read(path).expect("a file of the desk"));
-        let last = pair.plain.last();
+        let mut pair = Pair::new(path);
+        let last = usize::from(pair.file[5]);
         for call in CALLS {
             let once = pair.time(false, call, 50).max(1.0);
             let times = (ROUND_NANOSECONDS / once) as u64 + 1;
@@ -220,13 +265,8 @@ fn main() {
         Some("rounds") if words.len() > 2 => rounds(words[1].parse().expect("a number of rounds"), &words[2..]),
         Some("listings") if words.len() > 4 => listings(words[1].parse().expect("a number of rounds"), &words[2], &words[3], &words[4..]),
         Some("repeat") if words.len() == 5 => {
-            let mut pair = Pair::new(std::fs::read(&words[4]).expect("a file of the desk"));
             let times = words[3].parse().expect("a number");
-            if words[1] == "proved" {
-                pair.proved(&words[2], times);
-            } else {
-                pair.plain(&words[2], times);
-            }
+            Pair::new(&words[4]).run(words[1] == "proved", &words[2], times);
         }
         _ => panic!("see the head of bench/calls.rs"),
     }

@@ -1,6 +1,7 @@
 //! The desk in plain safe Rust, as one would write it from document 01: the baseline that the proved desk is measured against.
 //! A session's fields are private, so nothing is tested again; every index is checked by the language.
 #![forbid(unsafe_code)]
+#![allow(dead_code)] // each of the two programs over it uses a part
 
 pub const PARTS: usize = 31;
 const TICKS: i64 = 1 << 20;
