@@ -5,7 +5,7 @@ use mathlib.Core.List.{List, []}
 use native.Mathlib.Omega.{arith}
 use lib.IntN.{ℤ, _-ℤ_, _*ℤ_}
 use lib.ListN.{getD}
-use Rattle.integers.specs.Sum.{sum}
+use Rattle.integers.specs.Summation.{sum}
 use Rattle.definitions.specs.Words.{tabFrom, part}
 use Rattle.definitions.specs.Layout.{parts}
 use Rattle.definitions.specs.Matrix.{Figures}

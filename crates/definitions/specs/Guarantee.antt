@@ -6,7 +6,7 @@ use mathlib.Core.Logic.{_≢_}
 use mathlib.Core.Bool.{true}
 use lib.IntN.{ℤ, pos, natAbs, _+ℤ_, _-ℤ_, _*ℤ_}
 use lib.Signed.{_≤ℤ_, _<ℤ_}
-use Rattle.integers.specs.Sum.{sum, total}
+use Rattle.integers.specs.Summation.{sum, total}
 use Rattle.definitions.specs.Layout.{Bytes, lastYear, closeness, parts}
 use Rattle.definitions.specs.Refusals.{partLimit}
 use Rattle.definitions.specs.Observations.{chainOf}
@@ -42,19 +42,29 @@ module _ (f : Bytes) where
   abbrev pub InsideLimits : Vector → Type 0
   InsideLimits μ = (k : ℕ) → k < partsOf → natAbs (μ k) ≤ partLimit
 
+  -- What a mean that passes is worth.
   pub record Guarantee (μ : Vector) : Type 0 where
-    -- "its loss is at most that of every other rational vector plus e² times the sum of own weights"
-    pub nearly-least : (m : ℕ) (u : Vector) → 1 ≤ m → (pos (m * m) *ℤ loss (chainOf f) μ) ≤ℤ (lossTimes (chainOf f) m u +ℤ pos (m * m * slack))
-    -- "every rational vector of zero residue is within e² in weighted mean square"
+    -- no rational vector has a loss that is lower by more than the slack
+    pub nearly-least : (m : ℕ) (u : Vector) → 1 ≤ m
+        → (pos (m * m) *ℤ loss (chainOf f) μ) ≤ℤ (lossTimes (chainOf f) m u +ℤ pos (m * m * slack))
+    -- a rational vector whose residues are all 0 is no further away than e² in weighted mean square
     pub near : (m : ℕ) (u : Vector) → 1 ≤ m → ZeroResidue m u → distanceTimes m u μ ≤ℤ pos (m * m * slack)
-    -- "with zero residues of its own it is strictly least"
-    pub strictly-least : ZeroResidue 1 μ → (m : ℕ) (u : Vector) → 1 ≤ m → Another m u μ → (pos (m * m) *ℤ loss (chainOf f) μ) <ℤ lossTimes (chainOf f) m u
+    -- where the mean's own residues are all 0, any other rational vector has a higher loss
+    pub strictly-least : ZeroResidue 1 μ → (m : ℕ) (u : Vector) → 1 ≤ m → Another m u μ
+        → (pos (m * m) *ℤ loss (chainOf f) μ) <ℤ lossTimes (chainOf f) m u
 
-  -- "with e ≥ 256 every whole mean inside the limits within half a tick of a zero-residue vector passes"
+  -- A mean that was rounded from an exact one, u/m, for a file whose closeness leaves room for that.
+  pub record Rounded (μ : Vector) : Type 0 where
+    pub room : 256 ≤ closeness f
+    pub inside : InsideLimits μ
+    pub m : ℕ
+    pub u : Vector
+    pub some : 1 ≤ m
+    pub exact : ZeroResidue m u
+    pub half : WithinHalfATick m u μ
+
   abbrev pub RoundingPasses : Type 0
-  RoundingPasses =
-      256 ≤ closeness f → (μ : Vector) → InsideLimits μ → (m : ℕ) (u : Vector) → 1 ≤ m → ZeroResidue m u → WithinHalfATick m u μ
-      → passes (figuresOf f) μ ≡ true
+  RoundingPasses = (μ : Vector) → Rounded μ → passes (figuresOf f) μ ≡ true
 
 -- demand 3, whole: for every accepted file, whoever proposed the mean
 pub record Demand3 : Type 0 where

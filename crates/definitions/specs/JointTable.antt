@@ -5,7 +5,7 @@ use mathlib.Core.Bool.{true}
 use mathlib.Core.List.{List, [], _∷_, _++_}
 use lib.IntN.{ℤ, pos, negsuc}
 use lib.Count.{leadingZeros}
-use Rattle.integers.specs.Sum.{sum, total}
+use Rattle.integers.specs.Summation.{sum, total}
 use Rattle.definitions.specs.Words.{tabFrom, part}
 use Rattle.definitions.specs.Logarithm.{logarithm, bitsOf, highestBit, startFrom, nextBit, nextY}
 use Rattle.definitions.specs.Weight.{weight}
@@ -82,7 +82,9 @@ pub record JointTable : Type 0 where
   pub part-1-passes-with-e-2 : judgement (figuresOf (fileF 2)) (part (mean 0 1)) ≡ passed
 
 pub jointTable : JointTable
-unfolding leadingZeros sum total tabFrom logarithm bitsOf highestBit startFrom nextBit nextY weight bigEndian unsigned twosComplement rowStart fields check1 check2 check3 check4 check5 check6 check7 check8 check9 check10 fileCheck check16 ratioVariance paidStep incurredStep lastRatio figuresOf partOf own matrix rightHand residue judgeFrom
+unfolding leadingZeros sum total tabFrom logarithm bitsOf highestBit startFrom nextBit nextY weight bigEndian unsigned
+    twosComplement rowStart fields check1 check2 check3 check4 check5 check6 check7 check8 check9 check10 fileCheck check16
+    ratioVariance paidStep incurredStep lastRatio figuresOf partOf own matrix rightHand residue judgeFrom
 jointTable = record {
   log-of-1 = refl;
   log-of-2^40 = refl;

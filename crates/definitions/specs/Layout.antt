@@ -5,7 +5,7 @@ use mathlib.Core.List.{List, [], _∷_, _++_}
 use lib.ListN.{take, drop}
 use lib.IntN.{ℤ, pos, negsuc, _-ℤ_}
 use lib.Dec.{ltb}
-use Rattle.integers.specs.Sum.{total}
+use Rattle.integers.specs.Summation.{total}
 use Rattle.definitions.specs.Words.{tabFrom, part}
 
 abbrev pub Bytes : Type 0
@@ -103,10 +103,15 @@ paid s i j = unsigned 8 (paidAt (lastYear s) i j) s
 abbrev pub incurred : Bytes → ℕ → ℕ → ℕ
 incurred s i j = unsigned 8 (incurredAt (lastYear s) i j) s
 
--- the row of a year in the paid block (channel 0) or in the incurred block (1), as bytes of the file
+-- the row of a year in the paid block (channel 0) or in the incurred block (1): its first byte, how many it has, and its bytes
+abbrev pub rowAt : ℕ → ℕ → ℕ → ℕ
+rowAt J channel year = amountAt J (channel * cells J + rowStart J year)
+
+abbrev pub rowLength : ℕ → ℕ → ℕ
+rowLength J year = 8 * (J + 1 - year)
+
 abbrev pub rowBytes : Bytes → ℕ → ℕ → Bytes
-rowBytes s channel year =
-    take (8 * (lastYear s + 1 - year)) (drop (amountAt (lastYear s) (channel * cells (lastYear s) + rowStart (lastYear s) year)) s)
+rowBytes s channel year = take (rowLength (lastYear s) year) (drop (rowAt (lastYear s) channel year) s)
 
 -- ---- the mean record: 4-byte length, version byte 1, 2J + 1 signed 4-byte parts
 

@@ -28,13 +28,10 @@ unfoldable pub bitsOf : ℕ → ℕ → ℕ → ℕ
 bitsOf zero y l = l
 bitsOf (suc k) y l = bitsOf k (nextY y) (2 * l + nextBit y)
 
--- h followed by the bits: h·2^k plus the k bits
-abbrev pub logIn : ℕ → ℕ → ℕ
-logIn k a = bitsOf k (startFrom (highestBit a) a) (highestBit a)
-
 -- twenty times
 abbrev pub squarings : ℕ
 squarings = 20
 
+-- L: h·T plus the twenty bits
 unfoldable pub logarithm : ℕ → ℕ
-logarithm a = logIn squarings a
+logarithm a = highestBit a * ticksPerDoubling + bitsOf squarings (startFrom (highestBit a) a) 0

@@ -6,7 +6,7 @@ use mathlib.Core.List.{List, []}
 use lib.IntN.{ℤ, pos, natAbs, negℤ, _+ℤ_, _-ℤ_, _*ℤ_}
 use lib.ListN.{getD}
 use lib.Dec.{leb, eqb}
-use Rattle.integers.specs.Sum.{sum}
+use Rattle.integers.specs.Summation.{sum}
 use Rattle.definitions.specs.Words.{tabFrom, part}
 use Rattle.definitions.specs.Layout.{Bytes, lastYear, closeness, parts}
 use Rattle.definitions.specs.Observations.{Chain, chainOf}

@@ -1,7 +1,7 @@
 -- Document 01, "From amounts to the loss": the weights and the observations of a file, in ticks.
 use Prim.Native.Nat.{ℕ, zero, suc, _+_, _-_}
 use lib.IntN.{ℤ, pos, _-ℤ_}
-use Rattle.integers.specs.Sum.{total}
+use Rattle.integers.specs.Summation.{total}
 use Rattle.definitions.specs.Logarithm.{logarithm}
 use Rattle.definitions.specs.Weight.{weight}
 use Rattle.definitions.specs.Layout.{Bytes, lastYear, psiIndex, varianceOf, priorMean, priorVariance, paid, incurred}

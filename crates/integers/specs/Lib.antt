@@ -19,12 +19,13 @@
 --                          natAbs-neg, natAbs-+, natAbs--, natAbs-*, natAbs-*-≤, natAbs-square                         Size
 --   signed bits            fits, kept                                                                                  Size
 --   rounded down           floorDiv, floor-≤, floor-<                                                                  Floor
---   sum, by one term       sum, sum-zero, sum-suc, sum-next                                                            Sum
+--   what is summed         sum, and total over ℕ; `Sum` passes both on                                                 Summation
+--   sum, by one term       sum-zero, sum-suc, sum-next                                                                 Sum
 --   sum, term by term      sum-cong, sum-+, sum--, sum-neg, sum-scale, sum-scale-right, sum-const, sum-zeros           Sum
 --   double sums            sum-swap                                                                                    Sum
 --   sum over a range       sum-split, sum-first, sum-reverse, sum-one; only, only-yes, only-no, sum-below, sum-from     SumRange
 --   sum and order          sum-mono, sum-nonneg, sum-term, sum-positive                                                SumOrder
---   sum of naturals        total (in Sum), total-zero, total-suc, total-next, total-cong, total-+, total-scale-right,
+--   sum of naturals        total-zero, total-suc, total-next, total-cong, total-+, total-scale-right,
 --                          total-mono, total-bound, total-split, total-grows, total-term, pos-total                    Total
 --   sum of sizes           sizes, sum-size, sum-size-below; else the laws of total                                     Total
 --
@@ -42,4 +43,5 @@ pub mod Solver
 pub mod Sum
 pub mod SumOrder
 pub mod SumRange
+pub mod Summation
 pub mod Total

@@ -1,22 +1,13 @@
--- Finite sums of whole numbers and of naturals, and the laws of a sum's terms. Its range is in `SumRange`, its order in `SumOrder`, and the laws of
--- `total` in `Total`.
+-- The laws of a sum's terms. Its range is in `SumRange`, its order in `SumOrder`, and the laws of `total` in `Total`.
 use mathlib.Core.Path.{_≡_, refl, sym, _∙_, ap, ap₂}
 use Prim.Native.Nat.{ℕ, zero, suc, _+_, _<_}
 use native.Mathlib.Numerals.{add-one}
 use native.Mathlib.Omega.{arith}
 use mathlib.Core.List.{[], _∷_}
 use lib.IntN.{ℤ, pos, negℤ, _+ℤ_, _-ℤ_, _*ℤ_, negℤ-+ℤ, *ℤ-zero, zero-*ℤ}
+unfoldable pub use Rattle.integers.specs.Summation.{sum, total}
 use Rattle.integers.specs.Ring.{*ℤ-+ℤ, +ℤ-*ℤ, +ℤ-exchange}
 use Rattle.integers.specs.Solver.{ring, num, _⊞_, _⊠_, _≐_}
-
--- f 0 + f 1 + … + f (n − 1)
-unfoldable pub sum : ℕ → (ℕ → ℤ) → ℤ
-sum zero f = pos 0
-sum (suc n) f = sum n f +ℤ f n
-
-unfoldable pub total : ℕ → (ℕ → ℕ) → ℕ
-total zero f = 0
-total (suc n) f = total n f + f n
 
 -- ---- by one term
 

@@ -36,7 +36,9 @@ module _ (f : Bytes) (h : AcceptedFile f) (μ : Vector) where
 pub demand3 : Demand3
 demand3 = record {
   guarantee = λ f yes μ passed. guaranteed f (accepted-file f yes) μ (small-of-passes f μ passed);
-  rounding = λ f yes close μ _ m u some none half.
+  rounding = λ f yes μ r.
       let h = accepted-file f yes in
-      passes-of-small f μ (rounding-passes (chainOf f) (file-owned f h) (h .years .to) (closeness f) (le-trans (omega arith) close) m u μ some none half);
+      passes-of-small f μ
+      (rounding-passes (chainOf f) (file-owned f h) (h .years .to) (closeness f) (le-trans (omega arith) (r .room)) (r .m) (r .u) μ
+      (r .some) (r .exact) (r .half));
 }

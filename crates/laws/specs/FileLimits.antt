@@ -19,6 +19,7 @@ use Rattle.definitions.specs.Loss.{Vector}
 use Rattle.definitions.specs.Observations.{chainOf, σ², τ², paidStep, incurredStep, lastRatio}
 use Rattle.definitions.specs.Matrix.{own, matrix, rightHand, residueTimes}
 use Rattle.laws.specs.Accepted.{AcceptedFile, Within, cell-below}
+use Rattle.laws.specs.LogarithmBits.{logarithm-run}
 use Rattle.laws.specs.LogarithmBound.{logIn-at-most}
 use Rattle.laws.specs.PrecisionMatrix.{firstsOf}
 use Rattle.laws.specs.Sizes.{Limits, row-limit, entry-limit, target-limit, residue-limit}
@@ -28,8 +29,7 @@ use Rattle.laws.specs.FileBounds.{observedLimit, ownLimit, shareLimit, p
 
 -- 2^40 is the limit of an amount, and 40 doublings are fewer than 2^26 ticks
 pub logarithm-limit : (a : ℕ) → Within 1 amountLimit a → logarithm a ≤ observedLimit
-unfolding logarithm
-logarithm-limit a range = omega (arith, logIn-at-most squarings a 40 (omega arith) (range .from) (range .to) (omega arith))
+logarithm-limit a range = omega (arith, logarithm-run a, logIn-at-most squarings a 40 (omega arith) (range .from) (range .to) (omega arith))
 
 -- the difference of two numbers of one limit is within the limit
 difference-limit : (a b m : ℕ) → a ≤ m → b ≤ m → natAbs (pos a -ℤ pos b) ≤ m

@@ -1,4 +1,5 @@
 -- What follows from the definitions: why the promises hold. To search, not to read.
+--   LogarithmBits     the bits stand behind h, and are below T
 --   LogarithmBound    2^L ≤ a^T < 2^(L+2), for any number of squarings; a logarithm is at most that of the limit
 --   LogarithmOrder    the larger the amount, the larger its logarithm
 --   WeightLaws        the weight is positive, falls as the variance grows, and where it lies
@@ -12,7 +13,9 @@
 --   Rounding          a mean within half a tick of a zero-residue vector has small residues
 --   Judged            passed exactly if every |residue| ≤ e·D
 --   Demand3           DEMAND 3, whole, for every accepted file
+--   Pinned            demand 3 at its very limits, so that no statement of it can be weakened
 --   Diagonal          the matrix is symmetric, its diagonal positive; number 16 never refuses
+--   Rows              a row that is shown is inside its file and has an amount
 --   Sizes             the sizes of entries, rows, right-hand side and residues, over limits that are left open
 --   FileBounds        the weights of an accepted file, and that each g is at most the weights whose variances are in its sum
 --   FileLimits        the sizes of an accepted file's figures, as numbers
@@ -20,6 +23,7 @@
 --   SweepLaws         no step and no sweep raises the loss; a swept mean stays inside the limits
 --   MachineLaws       the machine runs on a file's figures; every state that calls reach is empty or an accepted file, a mean inside, a total ≤ 4,096
 --   Numbers           a refusal has a number of at least 1
+pub mod LogarithmBits
 pub mod LogarithmBound
 pub mod LogarithmOrder
 pub mod WeightLaws
@@ -33,7 +37,9 @@ pub mod FormGuarantee
 pub mod Rounding
 pub mod Judged
 pub mod Demand3
+pub mod Pinned
 pub mod Diagonal
+pub mod Rows
 pub mod Sizes
 pub mod FileBounds
 pub mod FileLimits

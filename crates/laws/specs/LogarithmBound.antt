@@ -10,7 +10,8 @@ use native.Mathlib.Omega.{arith, by-contra}
 use lib.Dec.{T, leb, leb→le, nleb→lt, lit<}
 use lib.Pow.{pow-add, pow-pos, pow-mono, pow-lt}
 use lib.Count.{leading-top}
-use Rattle.definitions.specs.Logarithm.{highestBit, startFrom, nextBit, nextY, bitsOf, logIn, squarings, logarithm}
+use Rattle.definitions.specs.Logarithm.{ticksPerDoubling, highestBit, startFrom, nextBit, nextY, bitsOf, squarings, logarithm}
+use Rattle.laws.specs.LogarithmBits.{logIn, logarithm-run}
 
 abbrev N : ℕ
 N = 2 ^ 31
@@ -186,12 +187,13 @@ module _ (a h : ℕ) (from : 2 ^ h ≤ a) (to : a < 2 ^ suc h) where
 
 -- ---- the logarithm
 
-pub record LogarithmBound (a k l : ℕ) : Type 0 where
-  pub at-least : 2 ^ l ≤ a ^ (2 ^ k)
-  pub less-than : a ^ (2 ^ k) < 2 ^ (l + 2)
+-- with t ticks to a doubling: 2^l ≤ a^t < 2^(l + 2)
+pub record LogarithmBound (a t l : ℕ) : Type 0 where
+  pub at-least : 2 ^ l ≤ a ^ t
+  pub less-than : a ^ t < 2 ^ (l + 2)
 
 -- for an amount of 64 bits and up to 28 squarings
-pub logIn-bound : (k a : ℕ) → k ≤ 28 → 1 ≤ a → a < 2 ^ 64 → LogarithmBound a k (logIn k a)
+pub logIn-bound : (k a : ℕ) → k ≤ 28 → 1 ≤ a → a < 2 ^ 64 → LogarithmBound a (2 ^ k) (logIn k a)
 unfolding highestBit
 logIn-bound k a few one small =
     let top = leading-top 64 a one small in
@@ -217,6 +219,6 @@ logIn-at-most k a b few one small short =
     power-of-power b (suc n) =
         pow-suc (2 ^ b) n ∙ ap (λ x. x * 2 ^ b) (power-of-power b n) ∙ sym (pow-add 2 (b * n) b) ∙ ap (λ n. 2 ^ n) (sym (mul-suc b n))
 
-pub logarithm-bound : (a : ℕ) → 1 ≤ a → a < 2 ^ 64 → LogarithmBound a squarings (logarithm a)
-unfolding logarithm
-logarithm-bound a one small = logIn-bound squarings a (omega arith) one small
+-- document 01's bound, with its T
+pub logarithm-bound : (a : ℕ) → 1 ≤ a → a < 2 ^ 64 → LogarithmBound a ticksPerDoubling (logarithm a)
+logarithm-bound a one small = rw (logarithm-run a) (logIn-bound squarings a (omega arith) one small)

@@ -8,19 +8,12 @@ use native.Mathlib.Omega.{arith, by-contra}
 use lib.Dec.{T, leb, leb→le, nleb→lt}
 use lib.Pow.{pow-mono, shr-mono}
 use lib.Count.{leading-top}
-use Rattle.definitions.specs.Logarithm.{highestBit, startFrom, nextBit, nextY, bitsOf, logIn, logarithm, squarings}
+use Rattle.definitions.specs.Logarithm.{highestBit, startFrom, nextBit, nextY, bitsOf, logarithm, squarings}
+use Rattle.laws.specs.LogarithmBits.{logIn, nextBit-small, logarithm-run}
 
 -- (l, y) stands no higher than (m, z): by the bits so far, and where those are the same by y
 abbrev Behind : ℕ → ℕ → ℕ → ℕ → Type 0
 Behind l y m z = (l < m) ⊎ ((l ≡ m) × (y ≤ z))
-
-nextBit-small : (y : ℕ) → nextBit y ≤ 1
-unfolding nextBit
-nextBit-small y = small (leb (2 ^ 63) (y * y))
-  where
-    small : (t : Bool) → cond t 1 0 ≤ 1
-    small true = omega arith
-    small false = omega arith
 
 -- a squaring keeps the order
 squaring-keeps : (l y m z : ℕ) → Behind l y m z → Behind (2 * l + nextBit y) (nextY y) (2 * m + nextBit z) (nextY z)
@@ -74,5 +67,4 @@ logIn-grows k a b one most small =
     by-place (inr less) = inl less
 
 pub logarithm-grows : (a b : ℕ) → 1 ≤ a → a ≤ b → b < 2 ^ 64 → logarithm a ≤ logarithm b
-unfolding logarithm
-logarithm-grows a b = logIn-grows squarings a b
+logarithm-grows a b one most small = rw (logarithm-run a, logarithm-run b) (logIn-grows squarings a b one most small)

@@ -66,14 +66,6 @@ module _ (q : ℕ) (fits : q < 2 ^ 64) where
 
 -- ---- the bits so far: 6 of the whole part, and one of each squaring
 
-pub nextBit-≤ : (y : ℕ) → nextBit y ≤ 1
-unfolding nextBit
-nextBit-≤ y = go (leb (2 ^ 63) (y * y))
-  where
-    go : (b : Bool) → cond b 1 0 ≤ 1
-    go true = omega arith
-    go false = omega arith
-
 pub one-bit-more : (i l b : ℕ) → l < 2 ^ (6 + i) → b ≤ 1 → 2 * l + b < 2 ^ (6 + (i + 1))
 one-bit-more i l b h small =
     let e : 6 + (i + 1) ≡ suc (6 + i) = omega arith in

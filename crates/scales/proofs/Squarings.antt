@@ -8,9 +8,10 @@ use mir.Val.{SFits, toZ}
 use mir.Facts.{toZ-pos}
 use Rattle.integers.specs.Size.{fits}
 use Rattle.definitions.specs.Logarithm.{logarithm, bitsOf, nextBit, squarings}
+use Rattle.laws.specs.LogarithmBits.{nextBit-small, logarithm-run}
 use Rattle.scales.specs.declared.Squaring.{Squaring}
 use Rattle.scales.specs.Squaring.{Start, Next}
-use Rattle.scales.proofs.Bits.{nextBit-≤, one-bit-more, few-bits, bits-next}
+use Rattle.scales.proofs.Bits.{one-bit-more, few-bits, bits-next}
 
 -- after i squarings from s
 pub record After (i : ℕ) (s t : Squaring) : Type 0 where
@@ -35,7 +36,7 @@ module _ {i : ℕ} {s t : Squaring} (h : After i s t) where
   after-next {u} more n = record {
     same = rw (n .y, n .bits) (sym (bits-next squarings i (t .y) (t .bits) more) ∙ h .same);
     small = n .small;
-    few = rw (n .bits) (one-bit-more i (t .bits) (nextBit (t .y)) (h .few) (nextBit-≤ (t .y)));
+    few = rw (n .bits) (one-bit-more i (t .bits) (nextBit (t .y)) (h .few) (nextBit-small (t .y)));
     within = omega arith;
   }
 
@@ -44,8 +45,8 @@ module _ {i : ℕ} {s t : Squaring} (h : After i s t) where
   after-fits = fits refl (omega (arith, after-few))
 
   pub after-ticks : {a : ℕ} → squarings ≤ i → Start a s → toZ w64 (t .bits) ≡ pos (logarithm a)
-  unfolding bitsOf logarithm
-  after-ticks done start =
+  unfolding bitsOf
+  after-ticks {a} done start =
       let none : squarings - i ≡ 0 = omega arith in
       toZ-pos w64 (omega (arith, after-few))
-      ∙ ap pos (ap (λ n. bitsOf n (t .y) (t .bits)) (sym none) ∙ h .same ∙ ap₂ (bitsOf squarings) (start .y) (start .bits))
+      ∙ ap pos (ap (λ n. bitsOf n (t .y) (t .bits)) (sym none) ∙ h .same ∙ ap₂ (bitsOf squarings) (start .y) (start .bits) ∙ sym (logarithm-run a))
