@@ -1,1 +1,4 @@
-pub mod Answers
+pub mod Told
+pub mod Calls
+pub mod CallLaws
+pub mod Pinned

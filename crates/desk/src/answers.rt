@@ -1,6 +1,7 @@
 // The answers as C sees them. A refusal's number is never 0, so 0 says that the call did its job.
 ghost use mathlib.Core.Path.{_≡_};
-ghost use Rattle.desk.specs.Answers.{openTold, judgeTold, sweepTold, readTold};
+ghost use Rattle.session.specs.Calls.{ofOpen, ofJudge, ofSweep, ofRead};
+ghost use Rattle.desk.specs.Told.{refusalTold, judgeTold, sweepTold};
 use session::answers::JudgeAnswer;
 use session::answers::OpenAnswer;
 use session::answers::ReadAnswer;
@@ -36,96 +37,77 @@ pub struct RowShown {
     pub length: u64,
 }
 
+pub fn refusal_of(number: u64, place: usize) -> Refusal
+    ensures { λ r. ⌜ r ≡ record { number = number; place = place } ⌝ }
+{
+    Refusal {
+        number: number,
+        place: place as u64,
+    }
+}
+
+fn judged_as(number: u64, place: usize, passed: u64, part: usize) -> Judged
+    ensures { λ r. ⌜ r ≡ record { refusal = record { number = number; place = place }; passed = passed; part = part } ⌝ }
+{
+    let refusal = Refusal {
+        number: number,
+        place: place as u64,
+    };
+    Judged {
+        refusal: refusal,
+        passed: passed,
+        part: part as u64,
+    }
+}
+
+fn swept_as(number: u64, place: usize, settled: u64, total: u64) -> Swept
+    ensures { λ r. ⌜ r ≡ record { refusal = record { number = number; place = place }; settled = settled; total = total } ⌝ }
+{
+    let refusal = Refusal {
+        number: number,
+        place: place as u64,
+    };
+    Swept {
+        refusal: refusal,
+        settled: settled,
+        total: total,
+    }
+}
+
 pub fn open_told(a: OpenAnswer) -> Refusal
-    ensures { λ r. ⌜ r ≡ openTold a ⌝ }
+    ensures { λ r. ⌜ r ≡ refusalTold (ofOpen a) ⌝ }
 {
     match a {
-        OpenAnswer::Opened => Refusal {
-            number: 0,
-            place: 0,
-        },
-        OpenAnswer::Refused(number, place) => Refusal {
-            number: number,
-            place: place as u64,
-        },
+        OpenAnswer::Opened => refusal_of(0, 0),
+        OpenAnswer::Refused(number, place) => refusal_of(number, place),
     }
 }
 
 pub fn judge_told(a: JudgeAnswer) -> Judged
-    ensures { λ r. ⌜ r ≡ judgeTold a ⌝ }
+    ensures { λ r. ⌜ r ≡ judgeTold (ofJudge a) ⌝ }
 {
-    let done = Refusal {
-        number: 0,
-        place: 0,
-    };
     match a {
-        JudgeAnswer::Passed => Judged {
-            refusal: done,
-            passed: 1,
-            part: 0,
-        },
-        JudgeAnswer::Fails(k) => Judged {
-            refusal: done,
-            passed: 0,
-            part: k as u64,
-        },
-        JudgeAnswer::Refused(number, place) => {
-            let refusal = Refusal {
-                number: number,
-                place: place as u64,
-            };
-            Judged {
-                refusal: refusal,
-                passed: 0,
-                part: 0,
-            }
-        }
+        JudgeAnswer::Passed => judged_as(0, 0, 1, 0),
+        JudgeAnswer::Fails(k) => judged_as(0, 0, 0, k),
+        JudgeAnswer::Refused(number, place) => judged_as(number, place, 0, 0),
     }
 }
 
 pub fn sweep_told(a: SweepAnswer) -> Swept
-    ensures { λ r. ⌜ r ≡ sweepTold a ⌝ }
+    ensures { λ r. ⌜ r ≡ sweepTold (ofSweep a) ⌝ }
 {
-    let done = Refusal {
-        number: 0,
-        place: 0,
-    };
     match a {
-        SweepAnswer::Settled(total) => Swept {
-            refusal: done,
-            settled: 1,
-            total: total,
-        },
-        SweepAnswer::Going(total) => Swept {
-            refusal: done,
-            settled: 0,
-            total: total,
-        },
-        SweepAnswer::Refused(number, place) => {
-            let refusal = Refusal {
-                number: number,
-                place: place as u64,
-            };
-            Swept {
-                refusal: refusal,
-                settled: 0,
-                total: 0,
-            }
-        }
+        SweepAnswer::Settled(total) => swept_as(0, 0, 1, total),
+        SweepAnswer::Going(total) => swept_as(0, 0, 0, total),
+        SweepAnswer::Refused(number, place) => swept_as(number, place, 0, 0),
     }
 }
 
 pub fn read_told(a: ReadAnswer) -> Refusal
-    ensures { λ r. ⌜ r ≡ readTold a ⌝ }
+    ensures { λ r. ⌜ r ≡ refusalTold (ofRead a) ⌝ }
 {
     match a {
-        ReadAnswer::Written => Refusal {
-            number: 0,
-            place: 0,
-        },
-        ReadAnswer::Refused(number, place) => Refusal {
-            number: number,
-            place: place as u64,
-        },
+        ReadAnswer::Written => refusal_of(0, 0),
+        ReadAnswer::Refused(number, place) => refusal_of(number, place),
     }
 }

@@ -1,7 +1,6 @@
 // What C calls. `held` has J (0 while nothing is open), the closeness and the sweeps run since open.
 ghost use Rattle.session.specs.State.{sessionHeld};
-ghost use Rattle.session.specs.Calls.{Opens, Judges, Sweeps, Reads};
-ghost use Rattle.desk.specs.Answers.{openAnswer, judgeAnswer, sweepAnswer, readAnswer, ShowsRow, Closes};
+ghost use Rattle.desk.specs.Calls.{Opens, Judges, Sweeps, Reads, Closes, ShowsRow};
 use crate::answers::Judged;
 use crate::answers::Refusal;
 use crate::answers::RowShown;
@@ -28,8 +27,10 @@ pub extern "C" fn desk_open_lent<'a>(
     mean: &'a mut [i64; 31],
     file: &'a [u8],
 ) -> Refusal
-    ensures { λ r. ⌜ Opens (sessionHeld (now (held .entry)) (now (own .entry)) (now (matrix .entry)) (now («right_hand» .entry)) (now (mean .entry))) (now (file .entry))
-        (record { answer = openAnswer r; session = sessionHeld (now (held .exit)) (now (own .exit)) (now (matrix .exit)) (now («right_hand» .exit)) (now (mean .exit)) }) ⌝ }
+    ensures { λ r. ⌜ Opens
+        (sessionHeld (now (held .entry)) (now (own .entry)) (now (matrix .entry)) (now («right_hand» .entry)) (now (mean .entry)))
+        (now (file .entry)) r
+        (sessionHeld (now (held .exit)) (now (own .exit)) (now (matrix .exit)) (now («right_hand» .exit)) (now (mean .exit))) ⌝ }
 {
     open_told(open_lent(held, own, matrix, right_hand, mean, file))
 }
@@ -44,7 +45,9 @@ pub extern "C" fn desk_judge_lent<'a>(
     mean: &'a [i64; 31],
     lent: &'a [u8],
 ) -> Judged
-    ensures { λ r. ⌜ Judges (sessionHeld (now (held .entry)) (now (own .entry)) (now (matrix .entry)) (now («right_hand» .entry)) (now (mean .entry))) (now (lent .entry)) (judgeAnswer r) ⌝ }
+    ensures { λ r. ⌜ Judges
+        (sessionHeld (now (held .entry)) (now (own .entry)) (now (matrix .entry)) (now («right_hand» .entry)) (now (mean .entry)))
+        (now (lent .entry)) r ⌝ }
 {
     judge_told(judge_lent(
         held[0] as usize,
@@ -68,8 +71,10 @@ pub extern "C" fn desk_sweep_lent<'a>(
     mean: &'a mut [i64; 31],
     n: u64,
 ) -> Swept
-    ensures { λ r. ⌜ Sweeps (sessionHeld (now (held .entry)) (now (own .entry)) (now (matrix .entry)) (now («right_hand» .entry)) (now (mean .entry))) n
-        (record { answer = sweepAnswer r; session = sessionHeld (now (held .exit)) (now (own .entry)) (now (matrix .entry)) (now («right_hand» .entry)) (now (mean .exit)) }) ⌝ }
+    ensures { λ r. ⌜ Sweeps
+        (sessionHeld (now (held .entry)) (now (own .entry)) (now (matrix .entry)) (now («right_hand» .entry)) (now (mean .entry)))
+        n r
+        (sessionHeld (now (held .exit)) (now (own .entry)) (now (matrix .entry)) (now («right_hand» .entry)) (now (mean .exit))) ⌝ }
 {
     let last = held[0];
     let closeness = held[1];
@@ -99,7 +104,9 @@ pub extern "C" fn desk_read_lent<'a>(
     mean: &'a [i64; 31],
     buffer: &'a mut [u8],
 ) -> Refusal
-    ensures { λ r. ⌜ Reads (sessionHeld (now (held .entry)) (now (own .entry)) (now (matrix .entry)) (now («right_hand» .entry)) (now (mean .entry))) (now (buffer .entry)) (readAnswer r) (now (buffer .exit)) ⌝ }
+    ensures { λ r. ⌜ Reads
+        (sessionHeld (now (held .entry)) (now (own .entry)) (now (matrix .entry)) (now («right_hand» .entry)) (now (mean .entry)))
+        (now (buffer .entry)) r (now (buffer .exit)) ⌝ }
 {
     read_told(read_lent(
         held[0] as usize,

@@ -1,7 +1,7 @@
 -- The machine's outcome for a session that fits and for one that does not, case by case: what each call shows of its answer.
 use Prim.Native.Nat.{ℕ, _≤_, _<_}
 use mathlib.Core.Path.{_≡_, refl, sym, ap, _∙_}
-use mathlib.Core.Bool.{Bool, true, false, not, cond}
+use mathlib.Core.Bool.{Bool, true, false, not, cond, false≢true}
 use mathlib.Core.List.{List, _++_}
 use native.Mathlib.Omega.{arith}
 use borrow.Author.Tests.{le-leb, lt-leb, lt-ltb, le-ltb}
@@ -16,8 +16,9 @@ use Rattle.definitions.specs.Matrix.{Judgement, passed, fails, judgement, isPas
 use Rattle.definitions.specs.Sweep as S
 use Rattle.definitions.specs.Sweep.{sweeps, sweepLimit}
 use Rattle.definitions.specs.Machine as M
-use Rattle.definitions.specs.Machine.{Answer, judged, settled, going, written, State, holds, Outcome, openCheck, refusedOr, accepted, openCall, judgeCall, sweepCall, sweptTo, readCall}
-use Rattle.definitions.specs.Guarantee.{Guarantee}
+use Rattle.definitions.specs.Machine.{Answer, judged, settled, going, written, State, holds, Outcome, openCheck, refusedOr, accepted}
+use Rattle.definitions.specs.Machine.{openCall, judgeCall, sweepCall, sweptTo, readCall}
+use Rattle.definitions.specs.Guarantee.{Guarantee, Rounded}
 use Rattle.laws.specs.Demand3.{demand3}
 use Rattle.chain.specs.Arrays as A
 use Rattle.chain.specs.Arrays.{figuresOf}
@@ -31,9 +32,10 @@ use Rattle.session.specs.declared.answers.SweepAnswer.the-variants.{Sett
 use Rattle.session.specs.declared.answers.ReadAnswer.{ReadAnswer}
 use Rattle.session.specs.declared.answers.ReadAnswer.the-variants.{Written, Refused as ReadRefused}
 use Rattle.session.specs.declared.answers.Sweeping.{Sweeping}
-use Rattle.session.specs.State.{Fits, stateOf, stateOf-held, stateOf-empty}
+use Rattle.session.specs.State.{Fits, stateOf}
+use Rattle.session.specs.StateLaws.{stateOf-held, stateOf-empty}
 use Rattle.session.specs.Calls as C
-use Rattle.session.specs.Calls.{judgesTo, sweepsTo, readsTo, Opens, Judges, Sweeps, Reads}
+use Rattle.session.specs.Calls.{opensTo, judgesTo, sweepsTo, readsTo, HoldsFile, Opens, Judges, Sweeps, Reads}
 
 -- ---- open
 
@@ -49,7 +51,8 @@ module _ (s : Session) (file : Bytes) where
     same = λ number place _. refl;
   }
 
-  pub opens-refused : ¬ Fits s → (number place : ℕ) → openCheck file ≡ refuses number place → Opens s file (record { answer = OpenRefused number place; session = s })
+  pub opens-refused : ¬ Fits s → (number place : ℕ) → openCheck file ≡ refuses number place
+      → Opens s file (record { answer = OpenRefused number place; session = s })
   unfolding openCall
   opens-refused h number place c = let e = stateOf-empty s h in record {
     answer = rw (e, c) refl;
@@ -58,7 +61,8 @@ module _ (s : Session) (file : Bytes) where
   }
 
   pub opens-done : ¬ Fits s → openCheck file ≡ clear → (t : Session) → Fits t → A.figuresOf (t .figures) ≡ D.figuresOf file
-      → A.meanOf (t .figures .last) (t .mean) ≡ tabFrom 0 (parts (lastYear file)) (priorMean file) → t .total ≡ 0 → Opens s file (record { answer = Opened; session = t })
+      → A.meanOf (t .figures .last) (t .mean) ≡ tabFrom 0 (parts (lastYear file)) (priorMean file) → t .total ≡ 0
+      → Opens s file (record { answer = Opened; session = t })
   unfolding openCall
   opens-done h c t fits figures mean total = let e = stateOf-empty s h in record {
     answer = rw (e, c) refl;
@@ -66,15 +70,14 @@ module _ (s : Session) (file : Bytes) where
     same = λ number place refused. absurd (opened-refused refused);
   }
 
--- ---- what a passed mean is worth
+-- ---- both halves of demand 3, of an open file
 
-worth : (f : Bytes) → accepted f ≡ true → (u : List ℤ) → passes (D.figuresOf f) (part u) ≡ true → Guarantee f (part u)
-worth f yes-file u passing = demand3 .guarantee f yes-file (part u) passing
+module _ {s : Session} {f : Bytes} {μ : List ℤ} {total : ℕ} (open-file : HoldsFile s f μ total) (u : List ℤ) where
+  worth : passes (D.figuresOf f) (part u) ≡ true → Guarantee f (part u)
+  worth passing = demand3 .guarantee f (open-file .file) (part u) passing
 
--- the last year of a file's figures
-figures-year : (f : Bytes) → D.figuresOf f .last ≡ lastYear f
-unfolding D.figuresOf
-figures-year f = refl
+  rounded : Rounded f (part u) → passes (D.figuresOf f) (part u) ≡ true
+  rounded r = demand3 .rounding f (open-file .file) (part u) r
 
 -- ---- judge
 
@@ -84,21 +87,46 @@ judged-refused e = let z : _≡_ {A = ℕ} 0 1 = cc in omega arith
 judged-same : {j k : Judgement} → judged j ≡ judged k → j ≡ k
 judged-same e = cc
 
+fails-passed : {k : ℕ} → fails k ≡ passed → ⊥
+fails-passed e = false≢true (ap isPassed e)
+
+is-passed : (j : Judgement) → isPassed j ≡ true → j ≡ passed
+is-passed passed e = refl
+is-passed (fails k) e = absurd (false≢true e)
+
+of-passed : (a : JudgeAnswer) → C.ofJudge a ≡ judged passed → a ≡ Passed
+of-passed Passed e = refl
+of-passed (Fails k) e = absurd (fails-passed (judged-same e))
+of-passed (JudgeRefused number place) e = absurd (judged-refused (sym e))
+
 refused-or : (c : Check) (a : Answer) (j : Judgement) → refusedOr c a ≡ judged j → a ≡ judged j
 refused-or clear a j e = e
 refused-or (refuses number place) a j e = absurd (judged-refused (sym e))
 
+-- a file that is open, and the mean of a record
+module _ (f : Bytes) (μ : List ℤ) (total : ℕ) (r : Bytes) where
+  abbrev judgedTo : Answer
+  judgedTo = judgesTo (holds (D.figuresOf f) μ total) r
+
+  passed-passes : judgedTo ≡ judged passed → passes (D.figuresOf f) (part (meanOf (lastYear f) r)) ≡ true
+  unfolding judgeCall D.figuresOf
+  passed-passes e = ap isPassed (judged-same (refused-or (recordCheck (lastYear f) r) _ passed e))
+
+  passes-passed : recordCheck (lastYear f) r ≡ clear → passes (D.figuresOf f) (part (meanOf (lastYear f) r)) ≡ true → judgedTo ≡ judged passed
+  unfolding judgeCall D.figuresOf
+  passes-passed c e = rw c (ap judged (is-passed _ e))
+
 module _ (s : Session) (r : Bytes) where
-  -- every answer that is the machine's carries what it is worth
+  -- every answer that is the machine's carries both halves
   judges : (a : JudgeAnswer) → C.ofJudge a ≡ judgesTo (stateOf s) r → Judges s r a
-  unfolding judgeCall
   judges a e = record {
     answer = e;
-    worth = λ f μ total yes-file st passing.
-        let now-passed : judged passed ≡ judgesTo (holds (D.figuresOf f) μ total) r = sym (ap C.ofJudge passing) ∙ e ∙ ap (λ x. judgesTo x r) st in
-        let verdict : judgement (D.figuresOf f) (part (meanOf (D.figuresOf f .last) r)) ≡ passed = judged-same (refused-or (recordCheck (D.figuresOf f .last) r) _ passed (sym now-passed)) in
-        worth f yes-file (meanOf (lastYear f) r)
-        (ap isPassed (ap (λ J. judgement (D.figuresOf f) (part (meanOf J r))) (sym (figures-year f)) ∙ verdict));
+    worth = λ f μ total open-file passing.
+        worth open-file (meanOf (lastYear f) r)
+        (passed-passes f μ total r (ap (λ x. judgesTo x r) (sym (open-file .state)) ∙ sym e ∙ ap C.ofJudge passing));
+    rounded = λ f μ total open-file c near.
+        of-passed a
+        (e ∙ ap (λ x. judgesTo x r) (open-file .state) ∙ passes-passed f μ total r c (rounded open-file (meanOf (lastYear f) r) near));
   }
 
   pub judges-closed : ¬ Fits s → Judges s r (JudgeRefused 21 0)
@@ -106,15 +134,20 @@ module _ (s : Session) (r : Bytes) where
   judges-closed h = judges (JudgeRefused 21 0) (rw (stateOf-empty s h) refl)
 
   module _ (h : Fits s) where
-    pub judges-refused : (number place : ℕ) → recordCheck (s .figures .last) r ≡ refuses number place → Judges s r (JudgeRefused number place)
+    pub judges-refused : (number place : ℕ) → recordCheck (s .figures .last) r ≡ refuses number place
+        → Judges s r (JudgeRefused number place)
     unfolding judgeCall figuresOf
     judges-refused number place c = judges (JudgeRefused number place) (rw (stateOf-held s h, c) refl)
 
-    pub judges-passed : recordCheck (s .figures .last) r ≡ clear → judgement (figuresOf (s .figures)) (part (meanOf (s .figures .last) r)) ≡ passed → Judges s r Passed
+    -- of the record's mean
+    abbrev verdict : Judgement
+    verdict = judgement (figuresOf (s .figures)) (part (meanOf (s .figures .last) r))
+
+    pub judges-passed : recordCheck (s .figures .last) r ≡ clear → verdict ≡ passed → Judges s r Passed
     unfolding judgeCall figuresOf
     judges-passed c j = judges Passed (rw (stateOf-held s h, c) (ap judged (sym j)))
 
-    pub judges-fails : (k : ℕ) → recordCheck (s .figures .last) r ≡ clear → judgement (figuresOf (s .figures)) (part (meanOf (s .figures .last) r)) ≡ fails k → Judges s r (Fails k)
+    pub judges-fails : (k : ℕ) → recordCheck (s .figures .last) r ≡ clear → verdict ≡ fails k → Judges s r (Fails k)
     unfolding judgeCall figuresOf
     judges-fails k c j = judges (Fails k) (rw (stateOf-held s h, c) (ap judged (sym j)))
 
@@ -132,48 +165,91 @@ settled-refused e = let z : _≡_ {A = ℕ} 0 1 = cc in omega arith
 going-refused : {number place total : ℕ} → _≡_ {A = SweepAnswer} (Going total) (SweepRefused number place) → ⊥
 going-refused e = let z : _≡_ {A = ℕ} 0 1 = cc in omega arith
 
-same-mean : {F : D.Figures} {μ ν : List ℤ} {total after : ℕ} → _≡_ {A = State D.Figures} (holds F μ total) (holds F ν after) → μ ≡ ν
-same-mean e = cc
+module _ {F : D.Figures} {μ ν : List ℤ} {total after : ℕ} (e : _≡_ {A = State D.Figures} (holds F μ total) (holds F ν after)) where
+  same-mean : μ ≡ ν
+  same-mean = cc
+
+  same-total : total ≡ after
+  same-total = cc
+
+settled-same : {total after : ℕ} → settled total ≡ settled after → total ≡ after
+settled-same e = cc
+
+of-settled : (a : SweepAnswer) {after : ℕ} → C.ofSweep a ≡ settled after → a ≡ Settled after
+of-settled (Settled total) e = ap Settled (settled-same e)
+of-settled (Going total) e = absurd (going-settled e)
+of-settled (SweepRefused number place) e = absurd (refused-settled e)
 
 -- settled exactly when the mean held after it passes
-module _ (F : D.Figures) (μ ν : List ℤ) (total n after last : ℕ) where
+module _ (F : D.Figures) (μ ν : List ℤ) (total n after : ℕ) where
+  abbrev end : S.Swept
+  end = sweeps F n μ total
+
+  -- it is the mean that is held afterwards
+  abbrev Held : State D.Figures → Type 0
+  Held st = st ≡ holds F ν after
+
   abbrev kept : Answer → Outcome D.Figures
   kept = M.answers D.Figures D.figuresOf (λ G. G) (holds F μ total)
 
   -- sweep's three tests
   abbrev swept : Bool → Bool → Bool → Outcome D.Figures
-  swept b c d = cond b (kept (M.refused 12 0)) (cond c (kept (settled total)) (cond d (kept (M.refused 23 0)) (sweptTo D.Figures D.figuresOf (λ G. G) F (sweeps F n μ total))))
+  swept b c d =
+      cond b (kept (M.refused 12 0))
+      (cond c (kept (settled total))
+      (cond d (kept (M.refused 23 0)) (sweptTo D.Figures D.figuresOf (λ G. G) F end)))
 
-  settled-passes : sweepsTo (holds F μ total) n .answer ≡ settled after → sweepsTo (holds F μ total) n .state ≡ holds F ν last → passes F (part ν) ≡ true
+  settled-passes : sweepsTo (holds F μ total) n .answer ≡ settled after → sweepsTo (holds F μ total) n .state ≡ holds F ν after
+      → passes F (part ν) ≡ true
   unfolding sweepCall
   settled-passes = by-cases (not (within 1 sweepLimit n)) (passes F (part μ)) (leb sweepLimit total) refl
     where
-      held-then : {m : List ℤ} {t : ℕ} → passes F (part m) ≡ true → _≡_ {A = State D.Figures} (holds F m t) (holds F ν last) → passes F (part ν) ≡ true
+      held-then : {m : List ℤ} {t : ℕ} → passes F (part m) ≡ true → Held (holds F m t) → passes F (part ν) ≡ true
       held-then e st = ap (λ m. passes F (part m)) (sym (same-mean st)) ∙ e
 
-      at-end : (b : Bool) → passes F (part (sweeps F n μ total .mean)) ≡ b → cond b (settled (sweeps F n μ total .swept)) (going (sweeps F n μ total .swept)) ≡ settled after
-          → _≡_ {A = State D.Figures} (holds F (sweeps F n μ total .mean) (sweeps F n μ total .swept)) (holds F ν last) → passes F (part ν) ≡ true
+      at-end : (b : Bool) → passes F (part (end .mean)) ≡ b → cond b (settled (end .swept)) (going (end .swept)) ≡ settled after
+          → Held (holds F (end .mean) (end .swept)) → passes F (part ν) ≡ true
       at-end true e a st = held-then e st
       at-end false e a st = absurd (going-settled a)
 
-      by-cases : (b c d : Bool) → passes F (part μ) ≡ c → swept b c d .answer ≡ settled after → swept b c d .state ≡ holds F ν last → passes F (part ν) ≡ true
+      by-cases : (b c d : Bool) → passes F (part μ) ≡ c → swept b c d .answer ≡ settled after → Held (swept b c d .state)
+          → passes F (part ν) ≡ true
       by-cases true c d e a st = absurd (refused-settled a)
       by-cases false true d e a st = held-then e st
       by-cases false false true e a st = absurd (refused-settled a)
-      by-cases false false false e a st = at-end (passes F (part (sweeps F n μ total .mean))) refl a st
+      by-cases false false false e a st = at-end (passes F (part (end .mean))) refl a st
+
+  passes-settled : within 1 sweepLimit n ≡ true → sweepsTo (holds F μ total) n .state ≡ holds F ν after → passes F (part ν) ≡ true
+      → sweepsTo (holds F μ total) n .answer ≡ settled after
+  unfolding sweepCall
+  passes-settled w st p = rw w (by-cases (passes F (part μ)) (leb sweepLimit total) refl (rw w at st))
+    where
+      held-now : {m : List ℤ} {t : ℕ} → Held (holds F m t) → passes F (part m) ≡ true
+      held-now st = ap (λ m. passes F (part m)) (same-mean st) ∙ p
+
+      by-cases : (c d : Bool) → passes F (part μ) ≡ c → Held (swept false c d .state) → swept false c d .answer ≡ settled after
+      by-cases true d e st = ap settled (same-total st)
+      by-cases false true e st = absurd (false≢true (sym e ∙ held-now st))
+      by-cases false false e st = rw (held-now st) (ap settled (same-total st))
 
 module _ (s : Session) (n : ℕ) where
-  sweeps-as : (r : Sweeping) → C.ofSweep (r .answer) ≡ sweepsTo (stateOf s) n .answer → stateOf (r .session) ≡ sweepsTo (stateOf s) n .state
+  sweeps-as : (r : Sweeping) → C.ofSweep (r .answer) ≡ sweepsTo (stateOf s) n .answer
+      → stateOf (r .session) ≡ sweepsTo (stateOf s) n .state
       → ((number place : ℕ) → r .answer ≡ SweepRefused number place → r .session ≡ s)
       → Sweeps s n r
   sweeps-as r a st same = record {
     answer = a;
     state = st;
     same = same;
-    worth = λ f μ ν total after yes-file before told then.
-        worth f yes-file ν (settled-passes (D.figuresOf f) μ ν total n after after
-        (ap (λ x. sweepsTo x n .answer) (sym before) ∙ sym a ∙ ap C.ofSweep told)
-        (ap (λ x. sweepsTo x n .state) (sym before) ∙ sym st ∙ then));
+    worth = λ f μ ν total after before then told.
+        worth before ν (settled-passes (D.figuresOf f) μ ν total n after
+        (ap (λ x. sweepsTo x n .answer) (sym (before .state)) ∙ sym a ∙ ap C.ofSweep told)
+        (ap (λ x. sweepsTo x n .state) (sym (before .state)) ∙ sym st ∙ then .state));
+    rounded = λ f μ ν total after before then w near.
+        of-settled (r .answer)
+        (a ∙ ap (λ x. sweepsTo x n .answer) (before .state)
+        ∙ passes-settled (D.figuresOf f) μ ν total n after w
+        (ap (λ x. sweepsTo x n .state) (sym (before .state)) ∙ sym st ∙ then .state) (rounded before ν near));
   }
 
   pub sweeps-closed : ¬ Fits s → Sweeps s n (record { answer = SweepRefused 21 0; session = s })
@@ -243,8 +319,10 @@ module _ (s : Session) (before : Bytes) where
   reads-as r after a b = record {
     answer = a;
     buffer = b;
-    worth = λ f μ total yes-file held-before told.
-        worth f yes-file μ (written-passes (D.figuresOf f) μ total before (ap (λ x. readsTo x before .answer) (sym held-before) ∙ sym a ∙ ap C.ofRead told));
+    worth = λ f μ total open-file told.
+        worth open-file μ
+        (written-passes (D.figuresOf f) μ total before
+        (ap (λ x. readsTo x before .answer) (sym (open-file .state)) ∙ sym a ∙ ap C.ofRead told));
   }
 
   pub reads-closed : ¬ Fits s → Reads s before (ReadRefused 21 0) before

@@ -1,5 +1,7 @@
 pub mod Bounds
+pub mod Decided
 pub mod State
+pub mod StateLaws
 pub mod Fitted
 pub mod Diagonal
 pub mod Calls

@@ -14,12 +14,21 @@ use Rattle.chain.specs.declared.arrays.Working.{Working}
 use Rattle.chain.specs.declared.sweep.Swept.{Swept}
 use Rattle.chain.specs.Arrays.{figuresOf, meanOf}
 use Rattle.chain.specs.Judge.{Passes}
-use Rattle.chain.specs.Sweeps.{SweptTo, passes-is}
+use Rattle.chain.specs.Sweeps.{Holds, SweptTo, passes-is}
 use Rattle.session.specs.declared.Session.{Session}
 use Rattle.session.specs.declared.answers.SweepAnswer.the-variants.{Settled, Going, Refused}
-use Rattle.session.specs.State.{Fits, stateOf-held}
-use Rattle.session.specs.Calls.{OpenSweep, Sweeps}
+use Rattle.session.specs.State.{Fits}
+use Rattle.session.specs.StateLaws.{stateOf-held}
+use Rattle.session.specs.Calls.{Sweeps}
 use Rattle.session.specs.CallLaws.{sweeps-settled, sweeps-spent, sweeps-done, sweeps-going}
+
+-- a sweep of an open file, with a number inside its limits and the mean that is held with its residues
+pub record OpenSweep (s : Session) (w : Working) (n : ℕ) : Type 0 where
+  pub fits : Fits s
+  pub mean : w .mean ≡ s .mean
+  pub holds-mean : Holds (s .figures) w
+  pub from : 1 ≤ n
+  pub to : n ≤ sweepLimit
 
 module _ (s : Session) (n : ℕ) where
   abbrev F : D.Figures

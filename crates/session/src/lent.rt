@@ -1,7 +1,8 @@
 // The calls over a session whose arrays are lent: the figures of the file (J, closeness, own weights, matrix and right-hand side),
 // the mean and the sweeps run since open. A call that is not refused changes what it is lent by `&mut` and nothing else.
 ghost use Rattle.session.specs.State.{sessionAt, sessionHeld};
-ghost use Rattle.session.specs.Calls.{Opens, Judges, OpenSweep, Sweeps, Reads};
+ghost use Rattle.session.specs.Calls.{Opens, Judges, Sweeps, Reads};
+ghost use Rattle.session.specs.SweepCall.{OpenSweep};
 ghost use Rattle.session.specs.Diagonal.{OfDiagonal, DiagonalOf};
 use crate::answers::JudgeAnswer;
 use crate::answers::OpenAnswer;

@@ -1,5 +1,5 @@
 -- `exports::desk_close_lent` meets its contract: J is 0. Assumes nothing.
-use Rattle.desk.specs.Answers.{closed}
+use Rattle.desk.specs.CallLaws.{closed}
 use mathlib.Core.Path.{refl}
 use mathlib.Core.List.{[], _∷_}
 use Rattle.desk.proofs.exports.desk_close_lent.Statement.{statement}

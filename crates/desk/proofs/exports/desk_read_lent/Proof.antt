@@ -1,6 +1,6 @@
 -- `exports::desk_read_lent` meets its contract: its answer stands for the session's. Assumes nothing.
 use borrow.Author.Needs.{needs}
-use Rattle.desk.specs.Answers.{reads-told}
+use Rattle.desk.specs.CallLaws.{reads-told}
 use Rattle.desk.proofs.exports.desk_read_lent.Statement.{statement}
 use Rattle.desk.proofs.exports.desk_read_lent.Tie as tie
 

@@ -5,7 +5,7 @@ use denote.Ref.{now}
 use Rattle.definitions.specs.Refusals.{clear, rowCheck}
 use Rattle.layout.specs.Checks.{told}
 use Rattle.layout.specs.CheckLaws.{passed, row-shown}
-use Rattle.desk.specs.Answers.{row-refused, row-shows}
+use Rattle.desk.specs.CallLaws.{row-refused, row-shows}
 use Rattle.desk.proofs.exports.desk_row.Statement.{statement}
 use Rattle.desk.proofs.exports.desk_row.Tie as tie
 

@@ -4,8 +4,8 @@ use native.Mathlib.Omega.{arith}
 use native.Mathlib.Nat.{le-trans, mul-le-mul-right}
 use mathlib.Core.Path.{_≡_, ap, ap₂, _∙_}
 use Prim.Native.Nat.{ℕ, _+_, _*_, _-_, _≤_}
-use lib.ListN.{length, take, drop}
-use Rattle.definitions.specs.Layout.{lastYear, cells, rowStart, amountAt}
+use lib.ListN.{length}
+use Rattle.definitions.specs.Layout.{lastYear, cells, rowStart, amountAt, rowLength}
 use Rattle.layout.specs.Places.{row-inside, amounts-end}
 use borrow.Author.Needs.{needs}
 use Rattle.readings.proofs.rows.row_place.Statement.{statement}
@@ -80,16 +80,11 @@ returns c =
     let r = c .before in
     let k = r .before in
     let d = k .before .before .before in
-    let s = now (d .args .s) in
     let cell : d .args .channel * k .cells-of .result + r .row-start .result ≡ d .args .channel * cells (J k) + rowStart (J k) (d .args .year)
     = ap₂ (λ n m. d .args .channel * n + m) (block k) (start r) in
-    let first : c .amounts-at .result + 8 * (d .args .channel * k .cells-of .result + r .row-start .result) ≡ amountAt (J k) (d .args .channel * cells (J k) + rowStart (J k) (d .args .year))
-    = omega (arith, cell, c .amounts-at .ensures, k .before .last-year .ensures) in
-    let long : 8 * (k .before .last-year .result + 1 - d .args .year) ≡ 8 * (J k + 1 - d .args .year)
-    = ap (λ n. 8 * (n + 1 - d .args .year)) (k .before .last-year .ensures) in
     record {
-      shows = ap₂ (λ n a. take n (drop a s)) long first;
-      inside = omega (arith, inside r, c .amounts-at .ensures, k .before .last-year .ensures);
+      start = omega (arith, cell, c .amounts-at .ensures, k .before .last-year .ensures);
+      length = ap (λ n. rowLength n (d .args .year)) (k .before .last-year .ensures);
     }
 
 pub row-place-spec : {M : Type 1} → statement M

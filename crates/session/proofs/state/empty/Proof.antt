@@ -1,6 +1,6 @@
 -- `state::empty` meets its contract: nothing is held. Assumes nothing.
 use native.Mathlib.Omega.{arith}
-use Rattle.session.specs.State.{stateOf-empty}
+use Rattle.session.specs.StateLaws.{stateOf-empty}
 use Rattle.session.proofs.state.empty.Statement.{statement}
 use Rattle.session.proofs.state.empty.Tie as tie
 

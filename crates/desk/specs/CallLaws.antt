@@ -1,0 +1,160 @@
+-- The contracts of what C calls follow from the session's, answer by answer.
+use Prim.Native.Nat.{ℕ, _≤_, zero-le}
+use mathlib.Core.Path.{_≡_, refl, sym, ap, subst, _∙_}
+use mathlib.Core.Logic.{_≢_}
+use mathlib.Core.List.{List}
+use native.Mathlib.Omega.{arith}
+use lib.ListN.{getD}
+use Rattle.definitions.specs.Layout.{Bytes, lastYear, rowAt, rowLength}
+use Rattle.definitions.specs.Refusals.{clear, refuses, rowCheck}
+use Rattle.definitions.specs.Matrix as D
+use Rattle.definitions.specs.Machine.{Answer, refused, rowPart}
+use Rattle.laws.specs.Numbers as N
+use Rattle.laws.specs.Rows.{row-inside, row-some, row-shown}
+use Rattle.readings.specs.declared.rows.RowPlace.{RowPlace}
+use Rattle.readings.specs.Rows.{Places}
+use Rattle.session.specs.declared.Session.{Session}
+use Rattle.session.specs.declared.answers.OpenAnswer.{OpenAnswer}
+use Rattle.session.specs.declared.answers.OpenAnswer.the-variants as O
+use Rattle.session.specs.declared.answers.JudgeAnswer.{JudgeAnswer}
+use Rattle.session.specs.declared.answers.JudgeAnswer.the-variants as J
+use Rattle.session.specs.declared.answers.SweepAnswer.{SweepAnswer}
+use Rattle.session.specs.declared.answers.SweepAnswer.the-variants as S
+use Rattle.session.specs.declared.answers.ReadAnswer.{ReadAnswer}
+use Rattle.session.specs.declared.answers.ReadAnswer.the-variants as R
+use Rattle.session.specs.State.{stateOf}
+use Rattle.session.specs.StateLaws.{stateOf-empty}
+use Rattle.session.specs.Calls as C
+use Rattle.session.specs.Calls.{ofOpen, ofJudge, ofSweep, ofRead}
+use Rattle.desk.specs.declared.answers.Refusal.{Refusal}
+use Rattle.desk.specs.declared.answers.Judged.{Judged}
+use Rattle.desk.specs.declared.answers.Swept.{Swept}
+use Rattle.desk.specs.declared.answers.RowShown.{RowShown}
+use Rattle.desk.specs.Told.{none, told, refusalTold, judgeTold, sweepTold, rowTold}
+use Rattle.desk.specs.Calls.{Numbered, Opens, Judges, Sweeps, Reads, Closes, ShowsRow}
+
+never-0 : {a : Answer} → N.NumberedAnswer a → Numbered a
+never-0 some place e = let none : 1 ≤ 0 = subst N.NumberedAnswer e some in omega arith
+
+abbrev itself : D.Figures → D.Figures
+itself F = F
+
+-- ---- open
+
+pub opens-told : (s : Session) (file : Bytes) (a : OpenAnswer) (t : Session) → C.Opens s file (record { answer = a; session = t })
+    → {r : Refusal} → r ≡ refusalTold (ofOpen a) → Opens s file r t
+opens-told s file a t h {r} e = record {
+  told = e ∙ ap refusalTold (h .answer);
+  numbered = never-0 (N.open-numbered D.Figures D.figuresOf itself (stateOf s) file);
+  state = h .state;
+  same = λ some. by-answer a (h .same) (λ none. some (ap (λ x. x .number) e ∙ none));
+}
+  where
+    by-answer : (a : OpenAnswer) → ((number place : ℕ) → a ≡ O.Refused number place → t ≡ s) → refusalTold (ofOpen a) .number ≢ 0 → t ≡ s
+    by-answer O.Opened same some = absurd (some refl)
+    by-answer (O.Refused number place) same some = same number place refl
+
+-- ---- judge
+
+is-passed : (a : JudgeAnswer) → told (ofJudge a) .passing ≡ 1 → a ≡ J.Passed
+is-passed J.Passed e = refl
+is-passed (J.Fails k) e = absurd (omega arith)
+is-passed (J.Refused number place) e = absurd (omega arith)
+
+pub judges-told : (s : Session) (lent : Bytes) (a : JudgeAnswer) → C.Judges s lent a → {r : Judged} → r ≡ judgeTold (ofJudge a)
+    → Judges s lent r
+judges-told s lent a h {r} e = record {
+  told = e ∙ ap judgeTold (h .answer);
+  numbered = never-0 (N.judge-numbered D.Figures D.figuresOf itself (stateOf s) lent);
+  worth = λ f μ total open-file one. h .worth f μ total open-file (is-passed a (sym flag ∙ one));
+  rounded = λ f μ total open-file c near. flag ∙ ap (λ x. told (ofJudge x) .passing) (h .rounded f μ total open-file c near);
+}
+  where
+    flag : r .passed ≡ told (ofJudge a) .passing
+    flag = ap (λ x. x .passed) e
+
+-- ---- sweep
+
+is-settled : (a : SweepAnswer) → told (ofSweep a) .passing ≡ 1 → a ≡ S.Settled (sweepTold (ofSweep a) .total)
+is-settled (S.Settled total) e = refl
+is-settled (S.Going total) e = absurd (omega arith)
+is-settled (S.Refused number place) e = absurd (omega arith)
+
+pub sweeps-told : (s : Session) (n : ℕ) (a : SweepAnswer) (t : Session) → C.Sweeps s n (record { answer = a; session = t })
+    → {r : Swept} → r ≡ sweepTold (ofSweep a) → Sweeps s n r t
+sweeps-told s n a t h {r} e = record {
+  told = e ∙ ap sweepTold (h .answer);
+  numbered = never-0 (N.sweep-numbered D.Figures D.figuresOf itself (stateOf s) n);
+  state = h .state;
+  same = λ some. by-answer a (h .same) (λ none. some (ap (λ x. x .refusal .number) e ∙ none));
+  worth = λ f μ ν total before then one.
+      h .worth f μ ν total (r .total) before then (is-settled a (sym flag ∙ one) ∙ ap S.Settled (sym (ap (λ x. x .total) e)));
+  rounded = λ f μ ν total after before then w near. flag ∙ ap (λ x. told (ofSweep x) .passing) (h .rounded f μ ν total after before then w near);
+}
+  where
+    flag : r .settled ≡ told (ofSweep a) .passing
+    flag = ap (λ x. x .settled) e
+
+    by-answer : (a : SweepAnswer) → ((number place : ℕ) → a ≡ S.Refused number place → t ≡ s)
+        → sweepTold (ofSweep a) .refusal .number ≢ 0 → t ≡ s
+    by-answer (S.Settled total) same some = absurd (some refl)
+    by-answer (S.Going total) same some = absurd (some refl)
+    by-answer (S.Refused number place) same some = same number place refl
+
+-- ---- read
+
+pub reads-told : (s : Session) (before : Bytes) (a : ReadAnswer) (after : Bytes) → C.Reads s before a after
+    → {r : Refusal} → r ≡ refusalTold (ofRead a) → Reads s before r after
+reads-told s before a after h {r} e = record {
+  told = e ∙ ap refusalTold (h .answer);
+  numbered = numbered;
+  buffer = h .buffer;
+  worth = λ f μ total open-file none. h .worth f μ total open-file (is-written a (h .answer) (sym (ap (λ x. x .number) e) ∙ none));
+}
+  where
+    numbered : Numbered (C.readsTo (stateOf s) before .answer)
+    numbered = never-0 (N.read-numbered D.Figures D.figuresOf itself (stateOf s) before)
+
+    is-written : (a : ReadAnswer) → ofRead a ≡ C.readsTo (stateOf s) before .answer → refusalTold (ofRead a) .number ≡ 0 → a ≡ R.Written
+    is-written R.Written same none = refl
+    is-written (R.Refused number place) same none =
+        absurd (numbered place (sym same ∙ ap (λ n. refused n place) none))
+
+-- ---- close
+
+pub closed : (held : List ℕ) → getD held 0 0 ≡ 0 → Closes held
+closed held none-held own A b μ = stateOf-empty _ (λ h. omega (arith, h .holding))
+
+-- ---- row
+
+row-numbered : (file : Bytes) (channel year place : ℕ) → rowCheck file channel year ≢ refuses 0 place
+row-numbered file channel year place e =
+    let none : 1 ≤ 0 = subst N.Numbered e (N.row-numbered file channel year) .some in omega arith
+
+module _ (file : Bytes) (channel year : ℕ) where
+  abbrev shown : RowShown
+  shown = rowTold (lastYear file) channel year clear
+
+  pub row-refused : (number place : ℕ) → rowCheck file channel year ≡ refuses number place
+      → ShowsRow file channel year (rowTold (lastYear file) channel year (refuses number place))
+  unfolding rowPart
+  row-refused number place e = record {
+    told = ap (rowTold (lastYear file) channel year) (sym e);
+    numbered = row-numbered file channel year;
+    shows = rw e refl;
+    inside = zero-le;
+    empty-refused = ((λ _ none. row-numbered file channel year place (e ∙ ap (λ n. refuses n place) none)), (λ _. refl));
+  }
+
+  row-at : rowCheck file channel year ≡ clear → ShowsRow file channel year shown
+  row-at e = record {
+    told = ap (rowTold (lastYear file) channel year) (sym e);
+    numbered = row-numbered file channel year;
+    shows = sym (row-shown file channel year e);
+    inside = row-inside file channel year e;
+    empty-refused = ((λ none _. omega (arith, row-some file channel year e)), (λ some. absurd (some refl)));
+  }
+
+  pub row-shows : (r : RowPlace) → rowCheck file channel year ≡ clear → Places file channel year r
+      → ShowsRow file channel year (record { refusal = none; start = r .start; length = r .length })
+  row-shows r e h = rw (h .start, h .length) (row-at e)

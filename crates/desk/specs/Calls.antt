@@ -1,0 +1,69 @@
+-- The contracts of what C calls, over the session before and after. What C gets is told of the machine's answer and of nothing
+-- else; a call that is refused leaves the session as it was; and C's callers have both halves of demand 3.
+use Prim.Native.Nat.{ℕ, _+_, _≤_}
+use mathlib.Core.Path.{_≡_}
+use mathlib.Core.Logic.{_≢_, _↔_}
+use mathlib.Core.Bool.{true}
+use mathlib.Core.List.{List}
+use lib.IntN.{ℤ}
+use lib.ListN.{length, take, drop}
+use Rattle.definitions.specs.Words.{within, part}
+use Rattle.definitions.specs.Layout.{Bytes, lastYear, meanOf}
+use Rattle.definitions.specs.Refusals.{clear, refuses, rowCheck, recordCheck}
+use Rattle.definitions.specs.Sweep.{sweepLimit}
+use Rattle.definitions.specs.Machine.{Answer, refused, empty, rowPart}
+use Rattle.definitions.specs.Guarantee.{Guarantee, Rounded}
+use Rattle.session.specs.declared.Session.{Session}
+use Rattle.session.specs.State.{stateOf, sessionHeld}
+use Rattle.session.specs.Calls.{opensTo, judgesTo, sweepsTo, readsTo, HoldsFile}
+use Rattle.desk.specs.declared.answers.Refusal.{Refusal}
+use Rattle.desk.specs.declared.answers.Judged.{Judged}
+use Rattle.desk.specs.declared.answers.Swept.{Swept}
+use Rattle.desk.specs.declared.answers.RowShown.{RowShown}
+use Rattle.desk.specs.Told.{refusalTold, judgeTold, sweepTold, rowTold}
+
+-- no refusal has the number 0, so that 0 says that there is none
+abbrev pub Numbered : Answer → Type 0
+Numbered a = (place : ℕ) → a ≢ refused 0 place
+
+pub record Opens (s : Session) (file : Bytes) (r : Refusal) (t : Session) : Type 0 where
+  pub told : r ≡ refusalTold (opensTo (stateOf s) file .answer)
+  pub numbered : Numbered (opensTo (stateOf s) file .answer)
+  pub state : stateOf t ≡ opensTo (stateOf s) file .state
+  pub same : r .number ≢ 0 → t ≡ s
+
+pub record Judges (s : Session) (meanRecord : Bytes) (r : Judged) : Type 0 where
+  pub told : r ≡ judgeTold (judgesTo (stateOf s) meanRecord)
+  pub numbered : Numbered (judgesTo (stateOf s) meanRecord)
+  pub worth : (f : Bytes) (μ : List ℤ) (total : ℕ) → HoldsFile s f μ total
+      → r .passed ≡ 1 → Guarantee f (part (meanOf (lastYear f) meanRecord))
+  pub rounded : (f : Bytes) (μ : List ℤ) (total : ℕ) → HoldsFile s f μ total
+      → recordCheck (lastYear f) meanRecord ≡ clear → Rounded f (part (meanOf (lastYear f) meanRecord)) → r .passed ≡ 1
+
+pub record Sweeps (s : Session) (n : ℕ) (r : Swept) (t : Session) : Type 0 where
+  pub told : r ≡ sweepTold (sweepsTo (stateOf s) n .answer)
+  pub numbered : Numbered (sweepsTo (stateOf s) n .answer)
+  pub state : stateOf t ≡ sweepsTo (stateOf s) n .state
+  pub same : r .refusal .number ≢ 0 → t ≡ s
+  pub worth : (f : Bytes) (μ ν : List ℤ) (total : ℕ) → HoldsFile s f μ total → HoldsFile t f ν (r .total)
+      → r .settled ≡ 1 → Guarantee f (part ν)
+  pub rounded : (f : Bytes) (μ ν : List ℤ) (total after : ℕ) → HoldsFile s f μ total → HoldsFile t f ν after
+      → within 1 sweepLimit n ≡ true → Rounded f (part ν) → r .settled ≡ 1
+
+pub record Reads (s : Session) (before : Bytes) (r : Refusal) (after : Bytes) : Type 0 where
+  pub told : r ≡ refusalTold (readsTo (stateOf s) before .answer)
+  pub numbered : Numbered (readsTo (stateOf s) before .answer)
+  pub buffer : after ≡ readsTo (stateOf s) before .buffer
+  pub worth : (f : Bytes) (μ : List ℤ) (total : ℕ) → HoldsFile s f μ total → r .number ≡ 0 → Guarantee f (part μ)
+
+-- nothing is open, whatever the other arrays hold
+abbrev pub Closes : List ℕ → Type 0
+Closes held = (own : List ℕ) (A b μ : List ℤ) → stateOf (sessionHeld held own A b μ) ≡ empty
+
+pub record ShowsRow (file : Bytes) (channel year : ℕ) (r : RowShown) : Type 0 where
+  pub told : r ≡ rowTold (lastYear file) channel year (rowCheck file channel year)
+  pub numbered : (place : ℕ) → rowCheck file channel year ≢ refuses 0 place
+  pub shows : take (r .length) (drop (r .start) file) ≡ rowPart file channel year
+  pub inside : r .start + r .length ≤ length file
+  -- empty exactly where it is refused
+  pub empty-refused : (r .length ≡ 0) ↔ (r .refusal .number ≢ 0)

@@ -1,0 +1,43 @@
+-- What C is told, case by case and in plain numbers, as include/desk.h has it.
+use Prim.Native.Nat.{ℕ}
+use mathlib.Core.Path.{_≡_, refl}
+use Rattle.definitions.specs.Layout.{rowStart}
+use Rattle.definitions.specs.Refusals.{clear, refuses}
+use Rattle.definitions.specs.Matrix.{passed, fails}
+use Rattle.definitions.specs.Machine.{refused, opened, judged, settled, going, written}
+use Rattle.integers.specs.Summation.{total}
+use Rattle.desk.specs.declared.answers.Refusal.{Refusal}
+use Rattle.desk.specs.Told.{refusalTold, judgeTold, sweepTold, rowTold}
+
+abbrev refusal : ℕ → ℕ → Refusal
+refusal number place = record { number = number; place = place }
+
+pub record Pinned : Type 0 where
+  pub opened-file : refusalTold opened ≡ refusal 0 0
+  pub refused-file : refusalTold (refused 9 86) ≡ refusal 9 86
+  pub written-mean : refusalTold written ≡ refusal 0 0
+  pub passed-mean : judgeTold (judged passed) ≡ record { refusal = refusal 0 0; passed = 1; part = 0 }
+  pub failing-mean : judgeTold (judged (fails 2)) ≡ record { refusal = refusal 0 0; passed = 0; part = 2 }
+  pub refused-record : judgeTold (refused 11 5) ≡ record { refusal = refusal 11 5; passed = 0; part = 0 }
+  pub settled-mean : sweepTold (settled 5) ≡ record { refusal = refusal 0 0; settled = 1; total = 5 }
+  pub going-mean : sweepTold (going 5) ≡ record { refusal = refusal 0 0; settled = 0; total = 5 }
+  pub spent-sweeps : sweepTold (refused 23 0) ≡ record { refusal = refusal 23 0; settled = 0; total = 0 }
+  -- File F's incurred amounts of year 0
+  pub shown-row : rowTold 1 1 0 clear ≡ record { refusal = refusal 0 0; start = 94; length = 16 }
+  pub refused-row : rowTold 1 1 2 (refuses 15 0) ≡ record { refusal = refusal 15 0; start = 0; length = 0 }
+
+pub pinned : Pinned
+unfolding rowStart total
+pinned = record {
+  opened-file = refl;
+  refused-file = refl;
+  written-mean = refl;
+  passed-mean = refl;
+  failing-mean = refl;
+  refused-record = refl;
+  settled-mean = refl;
+  going-mean = refl;
+  spent-sweeps = refl;
+  shown-row = refl;
+  refused-row = refl;
+}
