@@ -6,6 +6,7 @@ pub mod Fitted
 pub mod Diagonal
 pub mod Calls
 pub mod CallLaws
+pub mod Pinned
 pub mod MeanOfRecord
 pub mod SweepCall
 pub mod OpenCall
