@@ -48,7 +48,8 @@ class Sizes(unittest.TestCase):
     def test_numbers_of_four_bytes(self) -> None:
         for name, field in package.SESSION_FIELDS.items():
             with self.subTest(name), with_size(name, c_int32 * field._length_):
-                with self.assertRaisesRegex(SizesDiffer, f"{name} has {8 * field._length_} bytes there and {4 * field._length_} here"):
+                said = f"{name} has {8 * field._length_} bytes there and {4 * field._length_} here"
+                with self.assertRaisesRegex(SizesDiffer, said):
                     load_anew()
 
     def test_is_a_library_missing(self) -> None:
