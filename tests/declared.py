@@ -34,16 +34,28 @@ def made_by_build() -> frozenset[str]:
 
 
 @lru_cache(maxsize=None)
+def short_folders() -> dict[str, str]:
+    """The letters that docs/CLAIMS.md has for folders."""
+    return dict(re.findall(r"`([A-Z])` is `([\w/]+)`", text_of("docs/CLAIMS.md")))
+
+
+@lru_cache(maxsize=None)
 def text_of(name: str) -> str:
     return (ROOT / name).read_text()
 
 
 @lru_cache(maxsize=None)
+def dependencies() -> dict[str, list[str]]:
+    """Every crate with what it depends on, as crates.txt has it."""
+    lines = (line.partition("#")[0] for line in text_of("crates.txt").splitlines())
+    pairs = (line.split(":") for line in lines if line.strip())
+    return {name.strip(): needed.split() for name, needed in pairs}
+
+
+@lru_cache(maxsize=None)
 def crates() -> dict[str, list[str]]:
-    """Every crate with the crates of the repository that it depends on, as crates.txt has it."""
-    lines = (line.partition("#")[0].split(":") for line in text_of("crates.txt").splitlines())
-    listed = {line[0].strip(): line[1].split() for line in lines if len(line) == 2}
-    return {crate: [name for name in needed if name in listed] for crate, needed in listed.items()}
+    """Every crate with those of the repository that it depends on."""
+    return {crate: [name for name in needed if name in dependencies()] for crate, needed in dependencies().items()}
 
 
 @lru_cache(maxsize=None)
@@ -59,7 +71,7 @@ def files_of(crate: str | None, folder: str, suffix: str) -> list[str]:
 @lru_cache(maxsize=None)
 def rattle_items(name: str) -> frozenset[str]:
     """The functions, types and constants of a file."""
-    return frozenset(re.findall(r"\b(?:fn|struct|enum|type|const) (\w+)", text_of(name)))
+    return frozenset(re.findall(r"^[^/\n]*\b(?:fn|struct|enum|type|const) (\w+)", text_of(name), re.MULTILINE))
 
 
 @lru_cache(maxsize=None)

@@ -18,8 +18,6 @@ DOCUMENTS = ("README.md", "docs/CLAIMS.md", "docs/DECISIONS.md", "docs/CALLS.md"
 
 # What a document may show and the repository cannot have.
 EXCEPTIONS = {
-    "D": "short for a folder, as docs/CLAIMS.md says",
-    "L": "short for a folder, as docs/CLAIMS.md says",
     "N passed, 0 failed": "the last line of the kit's gate",
     "requires": "a word of Rattle",
     "&[Ticks; 31]": "a form that the kit does not cover, so no source has it",

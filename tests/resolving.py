@@ -6,8 +6,6 @@ from dataclasses import dataclass
 import declared
 from declared import crates, files, files_of, folders, made_by_build, text_of
 
-SHORT_FOLDERS = {"D/": "crates/definitions/specs/", "L/": "crates/laws/specs/"}  # as docs/CLAIMS.md says
-
 
 @dataclass(frozen=True)
 class Span:
@@ -46,8 +44,8 @@ def resolved(text: str, named: Named) -> Named | None:
 
 def path_of(text: str, named: Named) -> str | None:
     """The file or folder that a text names, from the root or from the crate that was named last."""
-    for short, folder in SHORT_FOLDERS.items():
-        text = folder + text.removeprefix(short) if text.startswith(short) else text
+    letter, slash, rest = text.partition("/")
+    text = declared.short_folders().get(letter, letter) + slash + rest
     inside = f"crates/{named.crate}/{text}"
     names = [text.rstrip("/"), f"{text}.antt", *([inside, f"{inside}.antt"] if named.crate and "/" in text else [])]
     known = files().keys() | folders() | made_by_build()
