@@ -18,7 +18,8 @@ from reserving_desk.library import VARIABLE
 @lru_cache(maxsize=None)
 def files() -> dict[str, bool]:
     """Every file of the repository, and whether it can be executed."""
-    command = ["git", "ls-files", "--cached", "--others", "--exclude-standard"]
+    # Whoever owns the checkout: a gate may run as another user.
+    command = ["git", "-c", f"safe.directory={ROOT}", "ls-files", "--cached", "--others", "--exclude-standard"]
     said = subprocess.run(command, cwd=ROOT, check=True, capture_output=True, text=True).stdout
     return {name: bool((ROOT / name).stat().st_mode & 0o100) for name in said.splitlines() if (ROOT / name).is_file()}
 
