@@ -67,11 +67,22 @@ typedef struct desk_shown {
     uint64_t length;
 } desk_shown;
 
+/* How many numbers each array of a session holds, and how many bytes the longest file and the longest mean record have. */
+typedef struct desk_counts {
+    uint64_t held;
+    uint64_t own;
+    uint64_t matrix;
+    uint64_t right_hand;
+    uint64_t mean;
+    uint64_t longest_file;
+    uint64_t longest_record;
+} desk_counts;
+
 /* What the library exports. The functions behind them lend it a session's fields one by one. */
 desk_refusal desk_open_lent(uint64_t held[3], uint64_t own[31], int64_t matrix[961], int64_t right_hand[31], int64_t mean[31],
                             const uint8_t *file, size_t length);
 desk_judgement desk_judge_lent(const uint64_t held[3], const uint64_t own[31], const int64_t matrix[961],
-                               const int64_t right_hand[31], const int64_t mean[31], const uint8_t *record, size_t length);
+                               const int64_t right_hand[31], const int64_t mean[31], const uint8_t *lent, size_t length);
 desk_sweeping desk_sweep_lent(uint64_t held[3], const uint64_t own[31], const int64_t matrix[961], const int64_t right_hand[31],
                               int64_t mean[31], uint64_t n);
 desk_refusal desk_read_lent(const uint64_t held[3], const uint64_t own[31], const int64_t matrix[961],
@@ -110,6 +121,10 @@ desk_shown desk_row(const uint8_t *file, size_t length, uint64_t channel, uint64
 static inline void desk_close(desk_session *s) {
     desk_close_lent(s->held);
 }
+
+/* The sizes that the library was built with. Whoever declares its calls elsewhere than here compares them before the first
+ * call: a session that is declared too small would be written behind. */
+desk_counts desk_sizes(void);
 
 #ifdef __cplusplus
 }

@@ -1,5 +1,7 @@
 """The listing program of document 01: opens what it is given, sweeps with n = 4,096, reads and prints."""
 
+from collections.abc import Sequence
+
 import layout
 import session
 from layout import Refusal
@@ -11,7 +13,11 @@ def refused_line(refusal: Refusal) -> str:
 
 def listing(given: bytes) -> str:
     """What the program prints for the bytes on its standard input."""
-    return "".join(line + "\n" for line in _lines(given))
+    return text_of(_lines(given))
+
+
+def text_of(lines: Sequence[str]) -> str:
+    return "".join(line + "\n" for line in lines)
 
 
 def _lines(given: bytes) -> list[str]:
@@ -25,6 +31,9 @@ def _lines(given: bytes) -> list[str]:
         return [f"spent {session.MOST_SWEEPS}"]
     last = state.file.last
     _, buffer = session.read(state, bytes(layout.record_length(last)))
-    mean = layout.read_record(buffer, last)
+    return mean_lines(last, answer.total, layout.read_record(buffer, last))
+
+
+def mean_lines(last: int, total: int, mean: Sequence[int]) -> list[str]:
     names = [f"phi {j}" for j in range(last + 1)] + [f"psi {j}" for j in range(last)]
-    return [f"J {last}", f"sweeps {answer.total}"] + [f"{name} {part}" for name, part in zip(names, mean)]
+    return [f"J {last}", f"sweeps {total}"] + [f"{name} {part}" for name, part in zip(names, mean)]

@@ -13,8 +13,9 @@ import damage
 import layout
 import samples
 import script
+import session
 from layout import build_file, build_record
-from listing import listing
+from listing import listing, mean_lines, text_of
 
 REFERENCE = Path(__file__).resolve().parent
 F = build_file(samples.file_f())
@@ -51,6 +52,36 @@ class Listing(unittest.TestCase):
         self.assertEqual(len(lines), 2 + 31)
         names = [f"phi {j}" for j in range(16)] + [f"psi {j}" for j in range(15)]
         self.assertEqual([line.rsplit(" ", 1)[0] for line in lines], ["J", "sweeps"] + names)
+
+
+class LongestListing(unittest.TestCase):
+    """By the limits: the largest J, the most digits for the total, and for each part as many as one inside the limits can have."""
+
+    def longest(self) -> str:
+        part = max(layout.MEAN_LIMITS, key=lambda limit: len(str(limit)))
+        last = layout.LARGEST_YEAR
+        return text_of(mean_lines(last, session.MOST_SWEEPS, (part,) * layout.parts_count(last)))
+
+    def test_is_said(self) -> None:
+        lines, size = self.longest().count("\n"), len(self.longest())
+        for name, said in (
+            ("README.md", f"No listing has more than {size} bytes"),
+            ("crates/listing/src/main.rt", f"The longest has {lines} lines and {size} bytes."),
+        ):
+            self.assertIn(said, " ".join((REFERENCE.parent / name).read_text().split()))
+
+    def test_none_is_longer(self) -> None:
+        """Each line grows with the size of its number; a refusal and a spent file print one line."""
+        low, high = layout.MEAN_LIMITS
+        self.assertGreaterEqual(len(str(low)), len(str(high)))
+        self.assertGreater(len(self.longest()), len("refused 24 at 2806\n"))
+        for last in range(1, layout.LARGEST_YEAR + 1):
+            for part in (low, low + 1, -1, 0, high):
+                mean = (part,) * layout.parts_count(last)
+                for total in (0, 9, 999, session.MOST_SWEEPS):
+                    self.assertLessEqual(len(text_of(mean_lines(last, total, mean))), len(self.longest()))
+        for path in sorted((REFERENCE.parent / "vectors" / "listing").glob("*.out")):
+            self.assertLessEqual(len(path.read_bytes()), len(self.longest()), path.name)
 
 
 class Script(unittest.TestCase):

@@ -54,6 +54,11 @@ def call_row(lent: bytes, channel: int, year: int) -> bytes:
 CLOSE = b"c"
 
 
+def one_of_each() -> Iterator[bytes]:
+    """Every kind of call, once, on an empty session, which is empty again behind the last."""
+    yield from (call_open(b""), call_judge(b""), call_sweep(1), call_read(0), call_row(b"", 0, 0), CLOSE)
+
+
 def script_of_scenes(seed: int, drawn_sessions: int = 60) -> bytes:
     rng = Random(f"calls {seed}")
     scenes: list[Iterable[bytes]] = [

@@ -1,8 +1,8 @@
 """The programs `listing` and `calls` against the reference, to the byte.
 
-First every vector and a file of every length, then listings and sessions that the reference draws from a seed. Then what a
-whole input at once does not show: that the listing takes its input in pieces, and that `calls` answers each call before it
-reads the next.
+First every vector and a file of every length, then listings and sessions that the reference draws from a seed, then scripts of
+very many calls. Then what a whole input at once does not show: that the listing takes its input in pieces, and that `calls`
+answers each call before it reads the next.
 """
 
 import argparse
@@ -28,6 +28,8 @@ from vectors import Vector, Vectors
 
 SECONDS = 60  # after which a program counts as hanging
 PROGRAMS = {"listing": "listing", "script": "calls", "calls": "calls"}  # by the first word of a vector's name
+MANY_CALLS = 1_100_000  # more than 2^20
+MANY_OF_EACH = 70_000  # more than 2^16
 
 
 def complaint(expected: bytes, printed: bytes) -> str | None:
@@ -47,6 +49,16 @@ def complaints_at_once(folder: Path, made: Vectors) -> Iterator[str]:
         said = complaint(vector.printed, done.stdout)
         if said or done.returncode or done.stderr:
             yield f"{name}: {said or 'printed as it should be'}; exit status {done.returncode} {done.stderr!r}"
+
+
+def complaints_of_many_calls(folder: Path) -> Iterator[str]:
+    """`calls` goes on as long as it is asked: a million calls of one kind, then every kind again and again."""
+    closes = vectors_calls.CLOSE
+    for script, times in ((closes, MANY_CALLS), (b"".join(vectors_calls.one_of_each()), MANY_OF_EACH)):
+        done = subprocess.run([folder / "calls"], input=script * times, capture_output=True, timeout=SECONDS)
+        said = complaint(vectors.answers(script) * times, done.stdout)
+        if said or done.returncode or done.stderr:
+            yield f"{times} times {script!r}: {said or 'printed as it should be'}; exit status {done.returncode} {done.stderr!r}"
 
 
 @contextmanager
@@ -114,6 +126,7 @@ def all_complaints(folder: Path, seed: int, count: int) -> Iterator[str]:
     yield from complaints_at_once(folder, made)
     yield from complaints_at_once(folder, vectors.make_lengths())
     yield from complaints_at_once(folder, vectors.make_random(seed, count))
+    yield from complaints_of_many_calls(folder)
     for name in ("f", "length-2806", "length-2807", "refused-09-highest"):
         for size in (1, 7, 2_806):
             yield from complaints_in_pieces(folder, made[f"listing/{name}"], size)

@@ -14,15 +14,9 @@ import tempfile
 from concurrent.futures import ThreadPoolExecutor
 from pathlib import Path
 
-ROOT = Path(__file__).resolve().parent.parent
+from declared import ROOT, dependencies
+
 EDITS = ROOT / "tests" / "edits"
-
-
-def dependencies() -> dict[str, list[str]]:
-    """Every crate with what it depends on, as crates.txt has it."""
-    lines = (line.partition("#")[0] for line in (ROOT / "crates.txt").read_text().splitlines())
-    pairs = (line.split(":") for line in lines if line.strip())
-    return {name.strip(): needed.split() for name, needed in pairs}
 
 
 def needed_by(crate: str, crates: dict[str, list[str]]) -> list[str]:

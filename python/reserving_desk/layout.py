@@ -12,7 +12,7 @@ from typing import Optional
 VERSION = 1
 RECORD_HEAD_LENGTH = 5
 PART_LENGTH = 4
-LONGEST_RECORD = RECORD_HEAD_LENGTH + 31 * PART_LENGTH  # J is at most 15
+LARGEST_YEAR = 15  # J is at most this
 
 
 @dataclass(frozen=True)
@@ -66,6 +66,14 @@ def record_fields(last: int) -> Iterator[Field]:
     """The fields of a mean record for a file whose J is `last`."""
     yield from (Field("length", 4), Field("version", 1))
     yield from (Field(f"part {part}", PART_LENGTH, signed=True) for part in part_names(last))
+
+
+def length_of(fields: Iterable[Field]) -> int:
+    return sum(field.width for field in fields)
+
+
+LONGEST_FILE = length_of(file_fields(LARGEST_YEAR))
+LONGEST_RECORD = length_of(record_fields(LARGEST_YEAR))
 
 
 def field_of_file(file: bytes, place: int) -> Optional[str]:

@@ -4,15 +4,23 @@ from __future__ import annotations
 
 import ctypes
 import os
-from ctypes import POINTER, Structure, c_char_p, c_int64, c_size_t, c_uint8, c_uint64
+from ctypes import POINTER, Structure, c_char_p, c_int64, c_size_t, c_uint8, c_uint64, sizeof
 from functools import lru_cache
 from pathlib import Path
+
+from .layout import LONGEST_FILE, LONGEST_RECORD
 
 VARIABLE = "RESERVING_DESK_LIBRARY"
 IN_THE_CHECKOUT = Path(__file__).resolve().parents[2] / "target" / "lib" / "libdesk.so"
 
-# The fields of a session: held, own, matrix, right_hand, mean. All zero is the empty session.
-SESSION_FIELDS = (c_uint64 * 3, c_uint64 * 31, c_int64 * 961, c_int64 * 31, c_int64 * 31)
+# The fields of a session, in the order in which they are lent. All zero is the empty session.
+SESSION_FIELDS = {
+    "held": c_uint64 * 3,
+    "own": c_uint64 * 31,
+    "matrix": c_int64 * 961,
+    "right_hand": c_int64 * 31,
+    "mean": c_int64 * 31,
+}
 
 
 class Refusal(Structure):
@@ -33,8 +41,33 @@ class Shown(Structure):
     _fields_ = [("refusal", Refusal), ("start", c_uint64), ("length", c_uint64)]
 
 
+class Sizes(Structure):
+    """Of each field of a session how many numbers it holds; of the longest file and record how many bytes."""
+
+    _fields_ = [(name, c_uint64) for name in (*SESSION_FIELDS, "longest_file", "longest_record")]
+
+
+SESSION = [POINTER(field) for field in SESSION_FIELDS.values()]
+LENT = [c_char_p, c_size_t]
+
+# By name: the answer and the parameters.
+FUNCTIONS = {
+    "desk_open_lent": (Refusal, SESSION + LENT),
+    "desk_judge_lent": (Judged, SESSION + LENT),
+    "desk_sweep_lent": (Swept, SESSION + [c_uint64]),
+    "desk_read_lent": (Refusal, SESSION + [POINTER(c_uint8), c_size_t]),
+    "desk_row": (Shown, LENT + [c_uint64, c_uint64]),
+    "desk_close_lent": (None, SESSION[:1]),
+    "desk_sizes": (Sizes, []),
+}
+
+
 class LibraryMissing(OSError):
     """The library is not there, or is not the desk's."""
+
+
+class SizesDiffer(LibraryMissing):
+    """The library is the desk's, and would read or write behind what this package lends it."""
 
 
 def library_path() -> Path:
@@ -50,23 +83,21 @@ def load(path: Path) -> ctypes.CDLL:
         raise LibraryMissing(f"no library {path}: run ./build in the checkout, or name the library in {VARIABLE}")
     try:
         library = ctypes.CDLL(str(path.resolve()))
-        _declare(library)
+        for name, (answer, parameters) in FUNCTIONS.items():
+            function = getattr(library, name)
+            function.restype, function.argtypes = answer, parameters
     except (OSError, AttributeError) as error:
         raise LibraryMissing(f"{path} is not the desk's library: run ./build in the checkout ({error})") from error
+    differences = _differences(library.desk_sizes())
+    if differences:
+        raise SizesDiffer(f"{path} is not the library of this package: {'; '.join(differences)}")
     return library
 
 
-def _declare(library: ctypes.CDLL) -> None:
-    session = [POINTER(field) for field in SESSION_FIELDS]
-    lent = [c_char_p, c_size_t]
-    functions = {
-        "desk_open_lent": (Refusal, session + lent),
-        "desk_judge_lent": (Judged, session + lent),
-        "desk_sweep_lent": (Swept, session + [c_uint64]),
-        "desk_read_lent": (Refusal, session + [POINTER(c_uint8), c_size_t]),
-        "desk_row": (Shown, lent + [c_uint64, c_uint64]),
-        "desk_close_lent": (None, session[:1]),
-    }
-    for name, (answer, arguments) in functions.items():
-        function = getattr(library, name)
-        function.restype, function.argtypes = answer, arguments
+def _differences(told: Sizes) -> list[str]:
+    """Where the library keeps to other sizes than the package. Each number of a session has 8 bytes."""
+    ours = {name: sizeof(field) for name, field in SESSION_FIELDS.items()}
+    theirs = {name: sizeof(c_uint64) * getattr(told, name) for name in SESSION_FIELDS}
+    ours.update(longest_file=LONGEST_FILE, longest_record=LONGEST_RECORD)
+    theirs.update(longest_file=told.longest_file, longest_record=told.longest_record)
+    return [f"{name} has {theirs[name]} bytes there and {ours[name]} here" for name in ours if ours[name] != theirs[name]]

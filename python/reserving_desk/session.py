@@ -51,7 +51,7 @@ class Session:
 
     def __init__(self) -> None:
         self._library = load(library_path())
-        self._fields = tuple(field() for field in SESSION_FIELDS)
+        self._fields = tuple(field() for field in SESSION_FIELDS.values())
         self._one_at_a_time = threading.Lock()
 
     def open(self, file: BytesLike) -> None:

@@ -1,6 +1,6 @@
 /* The C interface, call by call: answers, numbers and places of refusals, what a refusal leaves unchanged, null with length 0,
- * and sessions of arbitrary bytes. Expected numbers are document 01's; those of the sample and of the file that never settles
- * are the reference's. Arguments: the sample's file and its listing. */
+ * sizes, and sessions of arbitrary bytes. Expected numbers are document 01's; those of the sample and of the file that never
+ * settles are the reference's. Arguments: the sample's file and its listing. */
 #include "support.h"
 
 static desk_session opened(const uint8_t *file, size_t length) {
@@ -32,6 +32,19 @@ static void expect_passed(desk_judgement answer) {
 static void expect_fails(desk_judgement answer, uint64_t part) {
     EXPECT_DONE(answer.refusal);
     EXPECT(answer.passed == 0 && answer.part == part);
+}
+
+/* What the header declares is what the library was built with. */
+static void test_sizes(void) {
+    static const desk_session ZEROS;
+    const desk_session s = DESK_EMPTY;
+    const desk_counts told = desk_sizes();
+    EXPECT(COUNT(s.held) == told.held && COUNT(s.own) == told.own && COUNT(s.matrix) == told.matrix);
+    EXPECT(COUNT(s.right_hand) == told.right_hand && COUNT(s.mean) == told.mean);
+    EXPECT(sizeof s == 8 * (told.held + told.own + told.matrix + told.right_hand + told.mean));
+    EXPECT(memcmp(&s, &ZEROS, sizeof s) == 0);
+    EXPECT(DESK_LONGEST_RECORD == told.longest_record);
+    EXPECT(LONGEST_FILE == told.longest_file);
 }
 
 static void test_figures_of_f(void) {
@@ -83,7 +96,7 @@ static void expect_file_refused(const uint8_t *file, size_t length, uint64_t num
 
 static void test_files_refused(void) {
     uint8_t file[F_LENGTH + 8] = {0};
-    for (size_t k = 0; k < sizeof SPOILED / sizeof *SPOILED; k++) {
+    for (size_t k = 0; k < COUNT(SPOILED); k++) {
         file_f(file, 1);
         put(file, SPOILED[k].place, SPOILED[k].width, SPOILED[k].value);
         expect_file_refused(file, F_LENGTH, SPOILED[k].number, SPOILED[k].refused_at);
@@ -107,7 +120,7 @@ static void test_limits_are_taken(void) {
         {38, 8, 1 << 18, UINT64_C(1) << 46},
         {86, 8, 1, UINT64_C(1) << 40},
     };
-    for (size_t k = 0; k < sizeof LIMITS / sizeof *LIMITS; k++) {
+    for (size_t k = 0; k < COUNT(LIMITS); k++) {
         for (int high = 0; high <= 1; high++) {
             uint8_t file[F_LENGTH];
             file_f(file, 1);
@@ -171,9 +184,9 @@ static void test_judge_refused(void) {
 }
 
 static void test_numbers_of_sweeps_refused(void) {
-    static const uint64_t OUTSIDE[] = {0, 4097, UINT64_C(1) << 32, (UINT64_C(1) << 32) + 1, UINT64_MAX};
+    static const uint64_t OUTSIDE[] = {0, DESK_MOST_SWEEPS + 1, UINT64_C(1) << 32, (UINT64_C(1) << 32) + 1, UINT64_MAX};
     desk_session s = opened_f(1);
-    for (size_t k = 0; k < sizeof OUTSIDE / sizeof *OUTSIDE; k++) {
+    for (size_t k = 0; k < COUNT(OUTSIDE); k++) {
         EXPECT_REFUSED(&s, desk_sweep(&s, OUTSIDE[k]).refusal, 12, 0);
         EXPECT(desk_sweep(&s, OUTSIDE[k]).settled == 0);
     }
@@ -231,7 +244,7 @@ static void test_rows_of_f(void) {
     expect_row(file, sizeof file, DESK_PAID, 1, 86, 8);
     expect_row(file, sizeof file, DESK_INCURRED, 0, 94, 16);
     expect_row(file, sizeof file, DESK_INCURRED, 1, 110, 8);
-    for (size_t k = 0; k < sizeof FAR / sizeof *FAR; k++) {
+    for (size_t k = 0; k < COUNT(FAR); k++) {
         expect_row_refused(desk_row(file, sizeof file, FAR[k], 2), 14, 0);
         expect_row_refused(desk_row(file, sizeof file, DESK_INCURRED, FAR[k]), 15, 0);
     }
@@ -350,6 +363,7 @@ int main(int count, char **arguments) {
         fprintf(stderr, "usage: desk_test SAMPLE LISTING\n");
         return 2;
     }
+    RUN(test_sizes)();
     RUN(test_figures_of_f)();
     RUN(test_files_refused)();
     RUN(test_limits_are_taken)();

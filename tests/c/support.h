@@ -8,6 +8,7 @@
 
 #define T INT64_C(1048576)
 #define MOST_PART (INT64_C(1) << 26) /* a part of a mean is from minus this to this */
+#define COUNT(array) (sizeof(array) / sizeof *(array))
 enum { F_LENGTH = 118, F_RECORD = 17, LONGEST_FILE = 2806 };
 
 static unsigned long checked; /* so many facts */

@@ -2,3 +2,4 @@
 // lends; whatever stands in them is safe. `include/desk.h` declares them.
 pub mod answers;
 pub mod exports;
+pub mod sizes;

@@ -40,7 +40,7 @@ fn list_mean(page: &mut [u8], last: u8, total: u64, s: Session) -> usize
     put_parts(page, listed, b"psi ", &record, years + 1, years)
 }
 
-// The listing of the bytes given, at the front of the page; and where it ends. The longest has 33 lines and under 600 bytes.
+// The listing of the bytes given, at the front of the page; and where it ends. The longest has 33 lines and 524 bytes.
 fn list(page: &mut [u8], given: &[u8]) -> usize
     ensures { λ r. ⌜ Added (now (page .entry)) 0 (listing (now (given .entry))) (now (page .exit)) r ⌝ }
 {

@@ -1,0 +1,61 @@
+"""A library that keeps to other sizes than the package is not used: it would write behind what it is lent."""
+
+import unittest
+from contextlib import AbstractContextManager
+from ctypes import c_int32, c_uint64
+from unittest import mock
+
+import paths  # noqa: F401
+
+import layout
+from reserving_desk import LibraryMissing, SizesDiffer
+from reserving_desk import library as package
+from reserving_desk.layout import LONGEST_FILE, LONGEST_RECORD
+
+
+def load_anew() -> None:
+    package.load.__wrapped__(package.library_path())
+
+
+def with_size(name: str, size: object) -> AbstractContextManager:
+    """The package with one of the sizes that the library tells changed."""
+    if name in package.SESSION_FIELDS:
+        return mock.patch.dict(package.SESSION_FIELDS, {name: size})
+    return mock.patch.object(package, name.upper(), size)
+
+
+def size_and_next(name: str) -> tuple[object, object]:
+    """One less than the package has, and one more."""
+    if name in package.SESSION_FIELDS:
+        count = package.SESSION_FIELDS[name]._length_
+        return c_uint64 * (count - 1), c_uint64 * (count + 1)
+    return getattr(package, name.upper()) - 1, getattr(package, name.upper()) + 1
+
+
+class Sizes(unittest.TestCase):
+    def test_agree(self) -> None:
+        load_anew()
+        self.assertEqual(LONGEST_FILE, layout.LONGEST_FILE)
+        self.assertEqual(LONGEST_RECORD, layout.record_length(layout.LARGEST_YEAR))
+
+    def test_every_size_that_differs_is_named(self) -> None:
+        for name, _ in package.Sizes._fields_:
+            for size in size_and_next(name):
+                with self.subTest(name), with_size(name, size):
+                    with self.assertRaisesRegex(SizesDiffer, f"is not the library of this package: {name} has "):
+                        load_anew()
+
+    def test_numbers_of_four_bytes(self) -> None:
+        for name, field in package.SESSION_FIELDS.items():
+            with self.subTest(name), with_size(name, c_int32 * field._length_):
+                said = f"{name} has {8 * field._length_} bytes there and {4 * field._length_} here"
+                with self.assertRaisesRegex(SizesDiffer, said):
+                    load_anew()
+
+    def test_is_a_library_missing(self) -> None:
+        with with_size("matrix", c_uint64 * 960), self.assertRaises(LibraryMissing):
+            load_anew()
+
+
+if __name__ == "__main__":
+    unittest.main()

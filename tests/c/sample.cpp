@@ -1,0 +1,78 @@
+// The calls from C++, which must find the library's functions by their C names: prints the listing of a file as the program
+// `listing` does, and makes every call of the header on the way.
+#include "desk.h"
+
+#include <cstdio>
+#include <cstdlib>
+#include <fstream>
+#include <iterator>
+#include <vector>
+
+namespace {
+
+using Bytes = std::vector<std::uint8_t>;
+
+void expect(bool holds, const char *what) {
+    if (holds) return;
+    std::fprintf(stderr, "sample.cpp: not so: %s\n", what);
+    std::exit(1);
+}
+
+Bytes contents(const char *name) {
+    std::ifstream file(name, std::ios::binary);
+    return Bytes(std::istreambuf_iterator<char>(file), std::istreambuf_iterator<char>());
+}
+
+// The 4-byte field in two's complement at a place.
+std::int32_t field(const Bytes &bytes, std::size_t place) {
+    std::uint32_t digits = 0;
+    for (std::size_t k = 0; k < 4; k++) digits = digits << 8 | bytes[place + k];
+    return static_cast<std::int32_t>(digits);
+}
+
+// The rows of both channels, end to end, are what stands behind the priors.
+void expect_rows(const Bytes &file, std::uint64_t last) {
+    std::uint64_t start = 10 + 20 * (2 * last + 1);
+    for (std::uint64_t channel = DESK_PAID; channel <= DESK_INCURRED; channel++) {
+        for (std::uint64_t year = 0; year <= last; year++) {
+            const desk_shown row = desk_row(file.data(), file.size(), channel, year);
+            expect(row.refusal.number == 0 && row.start == start, "a row begins where the one before it ends");
+            start += row.length;
+        }
+    }
+    expect(start == file.size(), "the rows end with the file");
+}
+
+Bytes settled_record(desk_session *session) {
+    Bytes record(desk_sizes().longest_record);
+    expect(desk_read(session, record.data(), record.size()).number == 0, "a settled mean is read");
+    record.resize(static_cast<std::size_t>(field(record, 0)));
+    expect(desk_judge(session, record.data(), record.size()).passed == 1, "the mean that is read passes");
+    return record;
+}
+
+void print_parts(const char *name, const Bytes &record, std::size_t first, std::size_t count) {
+    for (std::size_t k = 0; k < count; k++) {
+        std::printf("%s %zu %ld\n", name, k, static_cast<long>(field(record, 5 + 4 * (first + k))));
+    }
+}
+
+} // namespace
+
+int main(int count, char **arguments) {
+    expect(count == 2, "one argument, a file of the desk");
+    const Bytes file = contents(arguments[1]);
+    desk_session session = DESK_EMPTY;
+    expect(desk_open(&session, file.data(), file.size()).number == 0, "the file is opened");
+    const desk_sweeping swept = desk_sweep(&session, DESK_MOST_SWEEPS);
+    expect(swept.settled == 1, "its mean settles");
+    const std::size_t last = file[5];
+    const Bytes record = settled_record(&session);
+    expect_rows(file, last);
+    std::printf("J %zu\nsweeps %llu\n", last, static_cast<unsigned long long>(swept.total));
+    print_parts("phi", record, 0, last + 1);
+    print_parts("psi", record, last + 1, last);
+    desk_close(&session);
+    expect(desk_sweep(&session, 1).refusal.number == 21, "nothing is open after a close");
+    return 0;
+}

@@ -1,0 +1,143 @@
+"""The calls as Rattle exports them, as the header declares them and as the package does: the same parameters and answers.
+
+Nothing else holds the three together. A parameter is written `NAME TYPE`, with `const` where the call only reads it; an answer is
+the numbers of its struct, in their order.
+"""
+
+import re
+import sys
+import unittest
+from ctypes import Structure
+from pathlib import Path
+
+ROOT = Path(__file__).resolve().parent.parent
+sys.path.insert(1, str(ROOT / "python"))
+
+from reserving_desk import library
+
+HEADER = (ROOT / "include" / "desk.h").read_text()
+SOURCES = "\n".join(path.read_text() for path in sorted((ROOT / "crates" / "desk" / "src").glob("*.rt")))
+
+Call = tuple[list[str], list[str]]  # parameters, and the numbers of the answer
+
+
+def split(parameters: str) -> list[str]:
+    return [" ".join(parameter.split()) for parameter in parameters.split(",") if parameter.strip(" \n") not in ("", "void")]
+
+
+def calls_of_rattle() -> dict[str, Call]:
+    found = re.findall(r"pub extern \"C\" fn (\w+)(?:<'a>)?\((.*?)\)(?: -> (\w+))?\n", SOURCES, re.DOTALL)
+    structs = dict(re.findall(r"#\[repr\(C\)\]\npub struct (\w+) \{\n(.*?)\}", SOURCES, re.DOTALL))
+    fields = {name: re.findall(r"pub (\w+): (\w+),", body) for name, body in structs.items()}
+    return {name: (rattle_parameters(parameters), numbers(answer, fields)) for name, parameters, answer in found}
+
+
+def rattle_parameters(parameters: str) -> list[str]:
+    """A slice is two parameters to C, where it starts and how long it is."""
+    written = []
+    for name, kind in (parameter.split(": ") for parameter in split(parameters)):
+        borrow, element, count = re.fullmatch(r"(&(?:'a )?(?:mut )?)?\[?(\w+)(?:; (\d+))?\]?", kind).groups()
+        read_only = "const " if borrow and "mut" not in borrow else ""
+        written.append(f"{name} {read_only}{element}" + (f"[{count}]" if count else "*" if borrow else ""))
+        written += ["length usize"] if borrow and not count else []
+    return written
+
+
+def numbers(answer: str, fields: dict[str, list[tuple[str, str]]]) -> list[str]:
+    """The fields of a struct, those of a struct inside it in its place."""
+    found = []
+    for name, kind in fields.get(answer, []):
+        found += [f"{name}.{number}" for number in numbers(kind, fields)] or [f"{name} {kind}"]
+    return found
+
+
+C_TYPES = {"uint64_t": "u64", "int64_t": "i64", "uint8_t": "u8", "size_t": "usize"}
+
+
+def in_rattle(c_text: str) -> str:
+    return re.sub(r"\b(?:u?int\d+|size)_t\b", lambda found: C_TYPES[found[0]], c_text)
+
+
+def calls_of_the_header() -> dict[str, Call]:
+    found = re.findall(r"^(\w+) (desk_\w+)\(([^)]*)\);", HEADER, re.MULTILINE)
+    structs = re.findall(r"typedef struct (desk_\w+) \{\n(.*?)\}", HEADER, re.DOTALL)
+    fields = {name: [(field, kind) for kind, field in re.findall(r"(\w+) (\w+);", in_rattle(body))] for name, body in structs}
+    return {name: (header_parameters(parameters), numbers(answer, fields)) for answer, name, parameters in found}
+
+
+def header_parameters(parameters: str) -> list[str]:
+    written = []
+    for parameter in split(in_rattle(parameters)):
+        kind, pointer, name, count = re.fullmatch(r"((?:const )?\w+) (\*?)(\w+)(\[\d+\])?", parameter).groups()
+        written.append(f"{name} {kind}{count or pointer}")
+    return written
+
+
+CTYPES = {"c_ulong": "u64", "c_long": "i64", "c_ubyte": "u8"}  # by the names that ctypes has on x86-64
+
+
+def calls_of_the_package() -> dict[str, list[str]]:
+    """The types alone: ctypes has no names for parameters, and no const."""
+    return {name: [ctypes_name(kind) for kind in parameters] for name, (_, parameters) in library.FUNCTIONS.items()}
+
+
+def ctypes_name(kind: type) -> str:
+    if kind is library.c_char_p:
+        return "u8*"
+    target = kind._type_
+    if isinstance(target, str):
+        return CTYPES[kind.__name__]
+    if hasattr(target, "_length_"):
+        return f"{CTYPES[target._type_.__name__]}[{target._length_}]"
+    return f"{CTYPES[target.__name__]}*"
+
+
+def structure_numbers(answer: type[Structure] | None) -> list[str]:
+    found = []
+    for name, kind in answer._fields_ if answer else ():
+        inside = structure_numbers(kind) if issubclass(kind, Structure) else []
+        found += [f"{name}.{number}" for number in inside] or [f"{name} {CTYPES[kind.__name__]}"]
+    return found
+
+
+def bare(parameter: str) -> str:
+    """The type alone, as ctypes has it: a length is a number of 64 bits."""
+    kind = parameter.split(" ", 1)[1].removeprefix("const ")
+    return "u64" if kind == "usize" else kind
+
+
+class Border(unittest.TestCase):
+    maxDiff = None
+
+    def test_there_are_calls(self) -> None:
+        self.assertGreaterEqual(len(calls_of_rattle()), 7)
+        self.assertEqual(len(calls_of_rattle()), SOURCES.count("#[no_mangle]"))
+
+    def test_the_header(self) -> None:
+        self.assertEqual(calls_of_the_header(), calls_of_rattle())
+
+    def test_the_package(self) -> None:
+        rattle = calls_of_rattle()
+        self.assertEqual(calls_of_the_package(), {name: [bare(text) for text in rattle[name][0]] for name in rattle})
+        answers = {name: structure_numbers(answer) for name, (answer, _) in library.FUNCTIONS.items()}
+        self.assertEqual(answers, {name: call[1] for name, call in rattle.items()})
+
+    def test_a_session(self) -> None:
+        """The header's struct and the package's fields are what desk_open_lent is lent."""
+        body = re.search(r"typedef struct desk_session \{\n(.*?)\}", in_rattle(HEADER), re.DOTALL)[1]
+        struct = [f"{name} {kind}{count}" for kind, name, count in re.findall(r"^ +(\w+) (\w+)(\[\d+\]);", body, re.MULTILINE)]
+        fields = [f"{name} {CTYPES[field._type_.__name__]}[{field._length_}]" for name, field in library.SESSION_FIELDS.items()]
+        lent = calls_of_rattle()["desk_open_lent"][0][:-2]
+        self.assertEqual(struct, lent)
+        self.assertEqual(fields, lent)
+
+    def test_every_function_is_called_from_c_and_from_cpp(self) -> None:
+        behind = {f"{name}_lent" for name in re.findall(r"inline \w+ (desk_\w+)\(", HEADER)}
+        declared = set(re.findall(r"\b(desk_\w+)\(", HEADER)) - behind
+        for name in ("desk_test.c", "sample.cpp"):
+            text = (ROOT / "tests" / "c" / name).read_text()
+            self.assertEqual({call for call in declared if f"{call}(" not in text}, set(), name)
+
+
+if __name__ == "__main__":
+    unittest.main()

@@ -1,0 +1,145 @@
+"""Limits and refusals are those of crates/definitions, wherever else they are written: in the README's tables, in the header, in
+the package and in the reference. Each is read from its file, so that a number changed in one place alone shows."""
+
+import re
+import sys
+import unittest
+from pathlib import Path
+
+ROOT = Path(__file__).resolve().parent.parent
+sys.path[1:1] = [str(ROOT / "python"), str(ROOT / "reference")]
+
+import layout
+import reserving_desk
+import session
+from reserving_desk import layout as package_layout
+from reserving_desk.refusals import WORDS
+
+README = (ROOT / "README.md").read_text()
+HEADER = (ROOT / "include" / "desk.h").read_text()
+SPECS = ROOT / "crates" / "definitions" / "specs"
+DEFINITIONS = "".join((SPECS / f"{name}.antt").read_text() for name in ("Refusals", "Sweep", "Machine"))
+
+# Where the definitions write the numbers that a refusal's words repeat, in the order of the words.
+WRITTEN = {
+    1: (r"^check1 s = unless \(leb (.+?) \(length s\)", r"^recordCheck J r =\s+unless \(leb (.+?) \(length r\)"),
+    2: (r"^check2 s = unless \(eqb \(version s\) (.+?)\)",),
+    3: (r"^check3 s = unless \(within (.+?) (.+?) \(lastYear s\)\)",),
+    5: (r"^check5 s = unless \(within (.+?) (.+?) \(closeness s\)\)",),
+    6: (r"^goodVariance v = within \((.+?)\) \((.+?)\) v",),
+    7: (r"^goodPriorVariance v = within \((.+?)\) \((.+?)\) v",),
+    8: (r"^goodPart z = leb \(natAbs z\) (?P<size>.+)",),
+    9: (r"^goodAmount a = within (.+?) (.+?) a$",),
+    10: (r"^check10 s = unless \(eqb \(paid s (.+?) \(lastYear s\)\)",),
+    11: (r"^goodPart z = leb \(natAbs z\) (?P<size>.+)",),
+    12: (r"\(within (.+?) (.+?) n\)\) .* \(refused 12 0\)",),
+    14: (r"unless \(leb channel (.+?)\) 14 ",),
+    23: (r"\(leb (.+?) total\) .* \(refused 23 0\)",),
+}
+
+
+def value(text: str) -> int:
+    """A numeral of the definitions or of the words, a power of them, or the name of a limit."""
+    base, power, exponent = text.replace(",", "").replace("−", "-").partition("^")
+    if power:
+        sign = -1 if base.startswith("-") else 1
+        return sign * value(base.strip(" -")) ** value(exponent.strip())
+    return int(base) if base.strip("-").isdigit() else value(re.search(rf"^{text} = (.+)$", DEFINITIONS, re.MULTILINE)[1])
+
+
+def defined(number: int) -> list[int]:
+    """The numbers of a refusal's words, by the definitions; a limit on a size counts on both sides of 0."""
+    found = []
+    for pattern in WRITTEN.get(number, ()):
+        match = re.search(pattern, DEFINITIONS, re.MULTILINE)
+        values = [value(text) for text in match.groups()]
+        found += [-values[0], values[0]] if "size" in match.groupdict() else values
+    return found
+
+
+def places() -> dict[int, str]:
+    """Every number that the definitions refuse with, and its place in the README's words."""
+    constant = re.findall(r"\) (\d+) (\d+)(?: then|$)", DEFINITIONS, re.MULTILINE)
+    constant += re.findall(r"\brefused (\d+) (\d+)", DEFINITIONS) + re.findall(r"\) (\d+) \(λ k\. (\d+)\)", DEFINITIONS)
+    of_fields = re.findall(r"= fields .* (\d+) \(?\w+At\b|then fields .* (\d+) partAt", DEFINITIONS)
+    paid = re.findall(r"\) (\d+) \(paidAt ", DEFINITIONS)
+    found = {int(number): place for number, place in constant}
+    found |= {int(one or other): "its first byte" for one, other in of_fields}
+    return found | {int(number): "the paid one's first byte" for number in paid}
+
+
+def numbers_in(words: str) -> list[int]:
+    return [value(text) for text in re.findall(r"−?\d[\d,]*\d(?:\^\d+)?|−?\d(?:\^\d+)?", words)]
+
+
+def listed(text: str) -> list[int]:
+    """The numbers of a text such as `22, 1 to 10, 16`."""
+    runs = re.findall(r"(\d+)(?: to (\d+))?", text)
+    return [number for first, last in runs for number in range(int(first), int(last or first) + 1)]
+
+
+def table_of_numbers() -> dict[int, tuple[str, str]]:
+    rows = re.findall(r"^\| (\d+) \| (.*) \| (.*) \|$", README, re.MULTILINE)
+    return {int(number): (meaning, place) for number, meaning, place in rows}
+
+
+class Refusals(unittest.TestCase):
+    maxDiff = None
+
+    def test_the_package_has_the_words_of_the_readme(self) -> None:
+        self.assertEqual(WORDS, {number: meaning for number, (meaning, _) in table_of_numbers().items()})
+
+    def test_numbers_and_places_of_the_readme_are_the_definitions(self) -> None:
+        self.assertEqual({number: place for number, (_, place) in table_of_numbers().items()}, places())
+
+    def test_limits_in_the_words_are_the_definitions(self) -> None:
+        for number, words in WORDS.items():
+            self.assertEqual(numbers_in(words), defined(number), f"{number}: {words}")
+
+    def test_each_call_may_refuse_with_the_same_numbers(self) -> None:
+        rows = re.findall(r"^\| `\w+::\w+::(\w+)` \|.*\| ([\d, to]+) \|$", README, re.MULTILINE)
+        readme = {call.removesuffix("_told"): listed(numbers) for call, numbers in rows}
+        comments = re.findall(r"May be refused with ((?:(?!\*/).)*)\*/\n(?:static inline )?\w+ desk_(\w+)\(", HEADER, re.DOTALL)
+        self.assertEqual({call: listed(numbers) for numbers, call in comments}, readme)
+        calls = {call: getattr(reserving_desk.Session, "read_into" if call == "read" else call) for call in readme}
+        told = {call: listed(re.search(r"Refused with (.*)\.", method.__doc__)[1]) for call, method in calls.items()}
+        self.assertEqual(told, readme)
+
+
+class Limits(unittest.TestCase):
+    def test_of_the_readme(self) -> None:
+        said = re.search(r"^## Limits\n\n(.*?)\. Left out", README, re.MULTILINE | re.DOTALL)[1]
+        last, part = value("yearLimit"), value("partLimit")
+        doublings = part // reserving_desk.TICKS_PER_DOUBLING
+        years = [2, last + 1, *defined(3)]
+        self.assertEqual(numbers_in(said), years + defined(9) + [part, doublings] + defined(5) + defined(23))
+
+    def test_of_the_reference(self) -> None:
+        for number, limits in (
+            (1, (layout.HEAD_LENGTH, layout.RECORD_HEAD_LENGTH)), (2, (layout.VERSION,)), (3, (1, layout.LARGEST_YEAR)),
+            (5, layout.CLOSENESS_LIMITS), (6, layout.VARIANCE_LIMITS), (7, layout.PRIOR_VARIANCE_LIMITS), (8, layout.MEAN_LIMITS),
+            (9, layout.AMOUNT_LIMITS), (11, layout.MEAN_LIMITS), (12, (1, session.MOST_SWEEPS)), (14, (layout.INCURRED,)),
+        ):
+            self.assertEqual(list(limits), defined(number), number)
+
+    def test_of_the_package(self) -> None:
+        self.assertEqual([package_layout.VERSION], defined(2))
+        self.assertEqual([1, package_layout.LARGEST_YEAR], defined(3))
+        self.assertEqual([reserving_desk.MOST_SWEEPS], defined(23))
+        self.assertEqual((reserving_desk.PAID, reserving_desk.INCURRED), (layout.PAID, layout.INCURRED))
+        self.assertEqual(package_layout.LONGEST_FILE, layout.LONGEST_FILE)
+        self.assertEqual(package_layout.LONGEST_RECORD, layout.record_length(layout.LARGEST_YEAR))
+
+    def test_of_the_header(self) -> None:
+        macros = dict(re.findall(r"^#define (DESK_\w+) (?:UINT64_C|\(\(size_t\))?\(?(.+?)\)*(?:\s+/\*.*)?$", HEADER, re.MULTILINE))
+        self.assertEqual(macros.pop("DESK_EMPTY"), "{" + ", ".join(["{0}"] * 5) + "}")
+        self.assertEqual({name: int(number) for name, number in macros.items()}, {
+            "DESK_PAID": layout.PAID,
+            "DESK_INCURRED": layout.INCURRED,
+            "DESK_MOST_SWEEPS": value("sweepLimit"),
+            "DESK_LONGEST_RECORD": layout.record_length(layout.LARGEST_YEAR),
+        })
+
+
+if __name__ == "__main__":
+    unittest.main()
