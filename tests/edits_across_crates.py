@@ -2,7 +2,8 @@
 
 The kit's must-fail edits are tried on one crate alone. An edit of `definitions` that no figure of the joint table shows is
 refused by a law, so it is tried here: the edited crate must still be proved, and the crate named in `refused-by:` must not.
-Each file of tests/edits/ has a comment, then the lines `crate:`, `file:`, `old:`, `new:` and `refused-by:`.
+Each file of tests/edits/ has a comment, then the lines `crate:`, `file:`, `old:`, `new:`, `refused-by:` and `first-at:`, the file of
+the first error, so that an edit which comes to be refused for another reason shows.
 """
 
 import os
@@ -31,7 +32,7 @@ def read_edit(path: Path) -> dict[str, str]:
 
 
 def complaint(path: Path) -> str | None:
-    """What is wrong with an edit: it cannot be made, or the proofs do not refuse it as they must."""
+    """What is wrong with an edit: it cannot be made, or the proofs do not refuse it where they must."""
     edit, crates = read_edit(path), dependencies()
     wanted = needed_by(edit["refused-by"], crates)
     with tempfile.TemporaryDirectory() as folder:
@@ -46,7 +47,11 @@ def complaint(path: Path) -> str | None:
         checked = subprocess.run(["rt", "check"], cwd=folder, capture_output=True, text=True, env={**os.environ, "RT_JOBS": "1"})
     said = checked.stdout + checked.stderr
     refused = re.findall(r"^rt: (\w+) NOT PROVED", said, re.MULTILINE)
-    return None if refused == [edit["refused-by"]] else f"not proved: {refused or 'none'}, and not just {edit['refused-by']}"
+    if refused != [edit["refused-by"]]:
+        return f"not proved: {refused or 'none'}, and not just {edit['refused-by']}"
+    first = re.search(rf"crates/{edit['refused-by']}/(\S+?):\d+:\d+: error", said)
+    place = first[1] if first else "no file"
+    return None if place == edit["first-at"] else f"refused first at {place}, and not at {edit['first-at']}"
 
 
 def main() -> int:
