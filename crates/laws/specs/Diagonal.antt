@@ -4,10 +4,10 @@ use Prim.Native.Nat.{ℕ, zero, suc, _+_, _*_, _≤_, _<_, min}
 use mathlib.Core.Path.{_≡_, refl, sym, ap, ap₂, _∙_, subst}
 use mathlib.Core.Bool.{Bool, true, false, not}
 use native.Mathlib.Omega.{arith}
-use lib.Dec.{T, eqb, eqb→eq, eqb-refl, not-T}
+use lib.Dec.{T, eqb, eqb→eq, not-T}
 use lib.IntN.{pos, natAbs, _+ℤ_, _*ℤ_, *ℤ-comm}
 use Rattle.integers.specs.Sum.{total}
-use Rattle.integers.specs.SumRange.{only, only-yes}
+use Rattle.integers.specs.SumRange.{only, only-same}
 use Rattle.integers.specs.Total.{pos-total}
 use Rattle.definitions.specs.Layout.{Bytes, lastYear, parts}
 use Rattle.definitions.specs.Refusals.{Check, clear, unless, _then_, fields, fileCheck}
@@ -42,7 +42,7 @@ module _ (c : Chain) where
   pub diagonal-is : (k : ℕ) → k < parts (c .last) → matrix c k k ≡ pos (own c k + total (rankOf (partOf (c .last) k)) (c .g))
   diagonal-is k below =
       matrix-by-ranks c k k below below
-      ∙ ap₂ _+ℤ_ (only-yes (eqb k k) (pos (own c k)) (eqb-refl k)) (same-sign (partOf (c .last) k))
+      ∙ ap₂ _+ℤ_ (only-same k (pos (own c k))) (same-sign (partOf (c .last) k))
     where
       same-rank : (n : ℕ) → min n n ≡ n
       same-rank n = omega arith

@@ -4,12 +4,11 @@ use mathlib.Core.Path.{ap}
 use mathlib.Core.Logic.{_≢_}
 use native.Mathlib.Nat.{le-trans, lt-of-le-of-lt, le-refl, mul-le-mul, mul-le-mul-right}
 use native.Mathlib.Omega.{arith}
-use lib.Dec.{eqb, eqb→eq, eqb-refl, not-T}
 use lib.IntN.{ℤ, pos, natAbs, _+ℤ_, _-ℤ_, _*ℤ_}
 use Rattle.integers.specs.Linear.{linear}
 use Rattle.integers.specs.Size.{natAbs-+, natAbs-*, natAbs-*-≤, natAbs--}
 use Rattle.integers.specs.Sum.{sum}
-use Rattle.integers.specs.SumRange.{only-yes, only-no}
+use Rattle.integers.specs.SumRange.{only-same, only-apart}
 use Rattle.integers.specs.Total.{total-bound, total-term, sizes, sum-size}
 use Rattle.definitions.specs.Layout.{Bytes, lastYear, closeness, parts, psiIndex, cells, rowStart, paid, incurred}
 use Rattle.definitions.specs.Logarithm.{logarithm, squarings}
@@ -116,12 +115,12 @@ module _ (f : Bytes) (h : AcceptedFile f) where
   -- the entries off the diagonal, and those on it
   pub entry-fits : (k l : ℕ) → k < parts J → l < parts J → k ≢ l → natAbs (matrix c k l) ≤ 15 * 2 ^ 27
   entry-fits k l k-below l-below apart =
-      let no-own = ap natAbs (only-no (eqb k l) (pos (own c k)) (not-T (eqb k l) (λ t. apart (eqb→eq k l t)))) in
+      let no-own = ap natAbs (only-apart k l (pos (own c k)) apart) in
       omega (arith, entry-limit c file-limits k l k-below l-below, mul-le-mul-right shareLimit (h .years .to))
 
   pub diagonal-fits : (k : ℕ) → k < parts J → natAbs (matrix c k k) ≤ 49 * 2 ^ 27
   diagonal-fits k below =
-      let with-own = ap natAbs (only-yes (eqb k k) (pos (own c k)) (eqb-refl k)) in
+      let with-own = ap natAbs (only-same k (pos (own c k))) in
       let own-weight = file-limits .own-to k below in
       omega (arith, entry-limit c file-limits k k below below, mul-le-mul-right shareLimit (h .years .to))
 

@@ -3,14 +3,13 @@
 -- observations, so that a loss with fewer of them, or with priors of no weight, is one too.
 use Prim.Native.Nat.{ℕ, _<_}
 use mathlib.Core.Path.{_≡_, sym, ap, ap₂, _∙_}
-use mathlib.Core.Logic.{_≢_}
 use mathlib.Core.List.{[], _∷_}
-use lib.Dec.{eqb, eqb→eq, eqb-refl, not-T}
+use lib.Dec.{eqb}
 use lib.IntN.{ℤ, pos, _+ℤ_, _-ℤ_, _*ℤ_, zero-*ℤ, *ℤ-comm}
 use Rattle.integers.specs.Ring.{+ℤ-*ℤ}
 use Rattle.integers.specs.Solver.{ring, _⊞_, _⊟_, _⊠_, num, _≐_}
 use Rattle.integers.specs.Sum.{sum, sum-cong, sum-+, sum-scale, sum-scale-right, sum-swap, sum-zeros, sum--}
-use Rattle.integers.specs.SumRange.{only, only-yes, only-no, sum-one}
+use Rattle.integers.specs.SumRange.{only, only-same, only-apart, sum-one}
 use Rattle.definitions.specs.Loss.{Vector}
 
 pub record Form : Type 0 where
@@ -69,11 +68,9 @@ module _ (q : Form) where
   -- ---- the residue by the matrix is the residue observation by observation
 
   on-diagonal : (u : Vector) (k : ℕ) → k < parts → sum parts (λ l. only (eqb k l) (D k) *ℤ u l) ≡ D k *ℤ u k
-  on-diagonal u k below = sum-one parts k below elsewhere ∙ ap (λ z. z *ℤ u k) (only-yes (eqb k k) (D k) (eqb-refl k))
-    where
-      elsewhere : (l : ℕ) → l < parts → l ≢ k → only (eqb k l) (D k) *ℤ u l ≡ pos 0
-      elsewhere l _ apart =
-          ap (λ z. z *ℤ u l) (only-no (eqb k l) (D k) (not-T (eqb k l) (λ t. apart (sym (eqb→eq k l t))))) ∙ zero-*ℤ (u l)
+  on-diagonal u k below =
+      sum-one parts k below (λ l _ away. ap (λ z. z *ℤ u l) (only-apart k l (D k) (λ same. away (sym same))) ∙ zero-*ℤ (u l))
+      ∙ ap (λ z. z *ℤ u k) (only-same k (D k))
 
   -- what the values v come to along a distance w
   felt-along : (v : ℕ → ℤ) (w : Vector) → sum parts (λ k. felt k v *ℤ w k) ≡ sum combinations (λ d. g d *ℤ (v d *ℤ combined w d))
