@@ -1,7 +1,7 @@
 -- The session machine of document 01: it runs on a file's figures alone, and every state that a list of calls reaches from the empty
 -- one is empty, or an accepted file with a mean inside the limits and a total of at most 4,096.
 use Prim.Native.Nat.{ℕ, zero, suc, _≤_, _<_, zero-le}
-use mathlib.Core.Path.{_≡_, refl, sym, ap, ap₂, subst, _∙_}
+use mathlib.Core.Path.{_≡_, refl, sym, ap, ap₂, _∙_}
 use mathlib.Core.Bool.{Bool, true, false, not, cond, _||_}
 use mathlib.Core.List.{List, [], _∷_, map}
 use native.Mathlib.Decide.{decLt}
