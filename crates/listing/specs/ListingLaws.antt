@@ -1,4 +1,4 @@
--- The listing, answer by answer: what the code shows of each of its branches. Assumes nothing.
+-- The listing, answer by answer: what the code shows of each of its branches.
 use Prim.Native.Nat.{ℕ, _≤_, _<_}
 use mathlib.Core.Path.{_≡_, refl, sym, ap, _∙_}
 use mathlib.Core.Bool.{true, cond}

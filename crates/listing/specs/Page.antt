@@ -1,4 +1,4 @@
--- What a page holds once a text is put on it, and one text behind another. Assumes nothing.
+-- What a page holds once a text is put on it, and one text behind another.
 use Prim.Native.Nat.{ℕ, zero, suc}
 use mathlib.Core.Path.{_≡_, refl, sym, ap, subst, _∙_}
 use mathlib.Core.List.{List, [], _∷_, _++_, append-assoc, append-nil}

@@ -1,4 +1,4 @@
--- The lines of a listing as bytes. Assumes nothing.
+-- The lines of a listing as bytes.
 use Prim.Native.Nat.{ℕ, zero, suc, _+_, _/_, _%_}
 use mathlib.Core.Bool.{cond}
 use mathlib.Core.List.{List, [], _∷_, _++_}

@@ -1,4 +1,4 @@
--- Laws of the lines: one part more, and the digits that the library spells. Assumes nothing.
+-- Laws of the lines: one part more, and the digits that the library spells.
 use Prim.Native.Nat.{ℕ, zero, suc, _+_, _-_, _/_, _%_, _^_, _≤_, _<_}
 use mathlib.Core.Path.{_≡_, refl, sym, ap, subst, _∙_}
 use mathlib.Core.Bool.{cond}

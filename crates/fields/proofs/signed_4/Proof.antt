@@ -1,5 +1,4 @@
 -- `fields::signed_4` meets its contract: a value that was read has four bytes, so that it is below 2^32.
--- Assumes nothing.
 use mathlib.Core.Path.{_≡_, refl, sym, ap, _∙_}
 use Prim.Native.Nat.{_+_, _≤_, _<_, _^_}
 use native.Mathlib.Omega.{arith}

@@ -1,4 +1,4 @@
--- `figures::figures_in` meets its contract: each call's array agrees with the definition, and so do the figures. Assumes nothing.
+-- `figures::figures_in` meets its contract: each call's array agrees with the definition, and so do the figures.
 use Prim.Native.Nat.{ℕ}
 use mathlib.Core.Path.{_≡_, refl, sym, subst}
 use mathlib.Core.List.{List}

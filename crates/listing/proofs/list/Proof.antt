@@ -1,4 +1,4 @@
--- What `list` puts on the page is the listing: each branch by the answer that led there. Assumes nothing.
+-- What `list` puts on the page is the listing: each branch by the answer that led there.
 use mathlib.Core.Path.{_≡_, sym, ap, ap₂, _∙_}
 use native.Mathlib.Omega.{arith}
 use denote.Ref.{now}
@@ -153,4 +153,8 @@ returns-5 c =
     in-words (sweep-refused (lastYear given) after _ _ answered ∙ open-opened given short is-opened) (c .before .before .put-refusal3 .ensures)
 
 pub list-spec : {M : Type 1} → statement M
-list-spec = tie.close (tie.spec put-refusal-requires same-length returns empty-requires open-requires enum-known-opened put-refusal-requires-2 same-length-2 returns-2 enum-told sweep-requires enum-known-swept last-year-requires list-mean-requires enum-known-swept-2 slice-aggregate-put-count put-count-requires enum-known-swept-3 put-refusal-requires-3 same-length-3 returns-3 same-length-4 returns-4 same-length-5 returns-5)
+list-spec = tie.close (tie.spec
+    put-refusal-requires same-length returns empty-requires open-requires enum-known-opened put-refusal-requires-2 same-length-2
+    returns-2 enum-told sweep-requires enum-known-swept last-year-requires list-mean-requires enum-known-swept-2
+    slice-aggregate-put-count put-count-requires enum-known-swept-3 put-refusal-requires-3 same-length-3 returns-3 same-length-4
+    returns-4 same-length-5 returns-5)

@@ -1,4 +1,4 @@
--- The lines of the mean, one behind the other, are those of the record that `read` left. Assumes nothing.
+-- The lines of the mean, one behind the other, are those of the record that `read` left.
 use mathlib.Core.Path.{sym, ap, _∙_}
 use Rattle.session.specs.State.{stateOf}
 use Rattle.session.specs.Calls.{ofRead}
@@ -85,4 +85,8 @@ returns-2 c =
     (both (both (both (headed .ensures) same₁ (counted .ensures)) same₂ (listed .ensures)) (listed .kept .0 ∙ same₂) (c .before .before .put-parts2 .ensures))
 
 pub list-mean-spec : {M : Type 1} → statement M
-list-mean-spec = tie.close (tie.spec slice-aggregate-read read-requires enum-known-answer put-refusal-requires same-length returns enum-told slice-aggregate-put-count put-count-requires slice-aggregate-put-count-2 put-count-requires-2 slice-aggregate-put-parts slice-aggregate-put-parts-2 add-put-parts put-parts-requires slice-aggregate-put-parts-3 slice-aggregate-put-parts-4 add-put-parts-2 put-parts-requires-2 same-length-2 returns-2)
+list-mean-spec = tie.close (tie.spec
+    slice-aggregate-read read-requires enum-known-answer put-refusal-requires same-length returns enum-told
+    slice-aggregate-put-count put-count-requires slice-aggregate-put-count-2 put-count-requires-2 slice-aggregate-put-parts
+    slice-aggregate-put-parts-2 add-put-parts put-parts-requires slice-aggregate-put-parts-3 slice-aggregate-put-parts-4
+    add-put-parts-2 put-parts-requires-2 same-length-2 returns-2)

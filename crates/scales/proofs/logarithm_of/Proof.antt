@@ -1,5 +1,4 @@
 -- `scales::logarithm_of` meets its contract. The loop's invariant: so many squarings are run. The measure is how many are left.
--- Assumes nothing.
 use Prim.Native.Nat.{_-_}
 use native.Mathlib.Omega.{arith}
 use Rattle.scales.proofs.Squarings.{After, after-none, after-may, after-next, after-fits, after-ticks}

@@ -1,4 +1,4 @@
--- `figures::matrix::fill_matrix` meets its contract. The loop's invariant: the rows passed are filled. Assumes nothing.
+-- `figures::matrix::fill_matrix` meets its contract. The loop's invariant: the rows passed are filled.
 use Prim.Native.Nat.{_-_, _≤_}
 use native.Mathlib.Omega.{arith}
 use lib.IntN.{pos}

@@ -1,5 +1,5 @@
 -- `figures::matrix::fill_row` meets its contract: the row's shares by its kind, and the own weight on the diagonal, where
--- the sum does not wrap. Assumes nothing.
+-- the sum does not wrap.
 use Prim.Native.Nat.{ℕ, _+_, _*_, _^_, _<_, min}
 use mathlib.Core.Path.{_≡_, refl, sym, ap, ap₂, subst, _∙_}
 use mathlib.Core.Logic.{⊎-elim}

@@ -1,4 +1,4 @@
--- `figures::matrix::fill_shares` meets its contract: two runs, one behind the other, are the row. Assumes nothing.
+-- `figures::matrix::fill_shares` meets its contract: two runs, one behind the other, are the row.
 use Prim.Native.Nat.{_≤_}
 use native.Mathlib.Omega.{arith}
 use denote.Ref.{now}

@@ -1,4 +1,4 @@
--- `figures::matrix::turned_shares` meets its contract. The loop's invariant: the sums passed are turned. Assumes nothing.
+-- `figures::matrix::turned_shares` meets its contract. The loop's invariant: the sums passed are turned.
 use Prim.Native.Nat.{_-_, _^_, _≤_, _<_}
 use mathlib.Core.Path.{_≡_, ap, _∙_}
 use mathlib.Core.List.{[], _∷_}

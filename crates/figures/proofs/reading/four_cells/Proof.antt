@@ -1,4 +1,4 @@
--- `figures::reading::four_cells` meets its contract: four cells inside the array, filled one after another. Assumes nothing.
+-- `figures::reading::four_cells` meets its contract: four cells inside the array, filled one after another.
 use Prim.Native.Nat.{ℕ, _+_, _^_, _≤_, _<_}
 use mathlib.Core.Path.{_≡_, ap, _∙_}
 use native.Mathlib.Omega.{arith}

@@ -1,5 +1,4 @@
 -- `figures::reading::logarithms` meets its contract. The loops' invariant: the cells passed have the logarithms of their amounts.
--- Assumes nothing.
 use Prim.Native.Nat.{_*_, _-_, _≤_, _<_}
 use mathlib.Core.Path.{_≡_, ap, _∙_}
 use native.Mathlib.Omega.{arith}

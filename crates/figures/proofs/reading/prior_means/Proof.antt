@@ -1,4 +1,4 @@
--- `figures::reading::prior_means` meets its contract. The loop's invariant: the parts passed have their prior means. Assumes nothing.
+-- `figures::reading::prior_means` meets its contract. The loop's invariant: the parts passed have their prior means.
 use Prim.Native.Nat.{_-_, _≤_, _<_}
 use mathlib.Core.Path.{_∙_}
 use native.Mathlib.Omega.{arith}

@@ -1,4 +1,4 @@
--- `figures::right_hand::column_sum` meets its contract: Φ_0, another Φ and a Ψ each have their sum, over cells inside the two blocks. Assumes nothing.
+-- `figures::right_hand::column_sum` meets its contract: Φ_0, another Φ and a Ψ each have their sum, over cells inside the two blocks.
 use Prim.Native.Nat.{_+_, _-_}
 use mathlib.Core.Path.{sym, ap, ap₂, subst, subst₂, _∙_}
 use native.Mathlib.Omega.{arith}

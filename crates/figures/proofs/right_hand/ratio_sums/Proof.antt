@@ -1,4 +1,5 @@
--- `figures::right_hand::ratio_sums` meets its contract. The loop's invariant: the sums up to development year d are there, and `at` is the last cell of the accident year J − d. Assumes nothing.
+-- `figures::right_hand::ratio_sums` meets its contract. The loop's invariant: the sums up to development year d are there, and `at`
+-- is the last cell of the accident year J − d.
 use Prim.Native.Nat.{ℕ, _+_, _*_, _-_, _^_, _≤_, _<_}
 use mathlib.Core.Path.{_≡_, refl, sym, ap₂, _∙_}
 use native.Mathlib.Omega.{arith}

@@ -1,4 +1,4 @@
--- `figures::right_hand::right_hand_at` meets its contract: no product and no sum wraps, and the sign of what is shared is the part's. Assumes nothing.
+-- `figures::right_hand::right_hand_at` meets its contract: no product and no sum wraps, and the sign of what is shared is the part's.
 use Prim.Native.Nat.{ℕ, _^_, _≤_}
 use mathlib.Core.Path.{_≡_, refl, ap, ap₂, _∙_}
 use native.Mathlib.Omega.{arith}

@@ -1,4 +1,4 @@
--- `figures::right_hand::right_hand_of` meets its contract. The loop's invariant: the parts passed have their right-hand sides. Assumes nothing.
+-- `figures::right_hand::right_hand_of` meets its contract. The loop's invariant: the parts passed have their right-hand sides.
 use Prim.Native.Nat.{_-_, _≤_}
 use mathlib.Core.Path.{_∙_}
 use native.Mathlib.Omega.{arith}

@@ -1,4 +1,4 @@
--- `figures::weights::own_weights` meets its contract. The loop's invariant: the parts passed have their own weights. Assumes nothing.
+-- `figures::weights::own_weights` meets its contract. The loop's invariant: the parts passed have their own weights.
 use Prim.Native.Nat.{_+_, _*_, _-_, _^_, _≤_, _<_}
 use mathlib.Core.Path.{ap}
 use native.Mathlib.Nat.{mul-le-mul}

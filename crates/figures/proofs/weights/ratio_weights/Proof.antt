@@ -1,4 +1,5 @@
--- `figures::weights::ratio_weights` meets its contract. The loop's invariant: the years from k on have their weights, and the variances to come after k are added up. Assumes nothing.
+-- `figures::weights::ratio_weights` meets its contract. The loop's invariant: the years from k on have their weights, and the
+-- variances to come after k are added up.
 use Prim.Native.Nat.{_+_, _*_, _-_, _^_, _≤_}
 use mathlib.Core.Path.{_≡_, sym, ap, ap₂, subst, _∙_}
 use native.Mathlib.Omega.{arith}

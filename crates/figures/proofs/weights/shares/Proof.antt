@@ -1,4 +1,4 @@
--- `figures::weights::shares` meets its contract. The loop's invariant: the sums of the first 0..n weights are there. Assumes nothing.
+-- `figures::weights::shares` meets its contract. The loop's invariant: the sums of the first 0..n weights are there.
 use Prim.Native.Nat.{_+_, _-_, _^_, _≤_, _<_}
 use mathlib.Core.Path.{_≡_, refl, sym, ap₂, _∙_}
 use native.Mathlib.Omega.{arith}

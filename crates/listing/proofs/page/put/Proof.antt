@@ -1,5 +1,5 @@
--- What `put` leaves at the page's front is what was there and the text, as far as the page goes. The invariant: the page is as long as it was, and its front
--- is what was there and the bytes passed. Assumes nothing.
+-- What `put` leaves at the page's front is what was there and the text, as far as the page goes. The invariant: the page is as long
+-- as it was, and its front is what was there and the bytes passed.
 use Prim.Native.Nat.{ℕ, _+_, _≤_, _<_, _-_}
 use mathlib.Core.Path.{_≡_, refl, sym, ap, _∙_}
 use mathlib.Core.List.{List, [], _∷_, _++_, append-nil, append-assoc}
@@ -84,4 +84,6 @@ returns-2 : tie.Need-returns-2 Inv-loop μ-loop
 returns-2 c = let l = c .before .loop in record { counted = counts _ _ (omega arith); front = l .inv .3 ∙ whole _ _ _ (c .before .before .pre) (l .i) (c .loop-test .left) (omega arith) }
 
 pub put-spec : {M : Type 1} → statement M
-put-spec = tie.close (tie.spec Inv-loop μ-loop loop-holds same-length returns shared-slice-read-page slice-write-page add-end add-i loop-less loop-again same-length-2 returns-2)
+put-spec = tie.close (tie.spec
+    Inv-loop μ-loop loop-holds same-length returns shared-slice-read-page slice-write-page add-end add-i loop-less loop-again
+    same-length-2 returns-2)

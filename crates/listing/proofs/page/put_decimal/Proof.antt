@@ -1,4 +1,4 @@
--- The digits that the library spells are the number in base ten. Assumes nothing.
+-- The digits that the library spells are the number in base ten.
 use mathlib.Core.Path.{_∙_}
 use Rattle.listing.specs.Page.{in-words}
 use Rattle.listing.specs.TextLaws.{at-most-twenty, fewest}

@@ -1,4 +1,4 @@
--- A name, an index, a space, a mean and the end of the line, one behind the other. Assumes nothing.
+-- A name, an index, a space, a mean and the end of the line, one behind the other.
 use mathlib.Core.Path.{ap, _∙_}
 use mir.Facts.{toZ-ofZ}
 use Rattle.listing.specs.Page.{both, in-words}
@@ -43,4 +43,6 @@ returns c =
     both (both (both (both (named .ensures) same₁ (indexed .ensures)) same₂ (parted .ensures)) same₃ (in-words (ap signedDecimal (toZ-ofZ (c .before .before .before .before .before .before .before .before .before .before .before .before .before .before .before .before .before .before .before .before .before .before .before .before .fits .mean))) (signed .ensures))) (signed .kept .0 ∙ same₃) (c .before .before .put3 .ensures)
 
 pub put-part-spec : {M : Type 1} → statement M
-put-part-spec = tie.close (tie.spec put-requires put-decimal-requires slice-aggregate-put put-requires-2 put-signed-requires slice-aggregate-put-2 put-requires-3 same-length returns)
+put-part-spec = tie.close (tie.spec
+    put-requires put-decimal-requires slice-aggregate-put put-requires-2 put-signed-requires slice-aggregate-put-2 put-requires-3
+    same-length returns)

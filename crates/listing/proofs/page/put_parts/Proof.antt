@@ -1,4 +1,4 @@
--- The lines of a record's parts. The invariant: the page is as long as it was, and the lines of the parts passed are added. Assumes nothing.
+-- The lines of a record's parts. The invariant: the page is as long as it was, and the lines of the parts passed are added.
 use Prim.Native.Nat.{_+_, _-_, _≤_}
 use mathlib.Core.Path.{_≡_, refl, ap, _∙_}
 use native.Mathlib.Omega.{arith}
@@ -84,4 +84,6 @@ returns-2 c =
     in-words (ap (partLines (now (a .name)) (partFrom (now (a .«record»)) (a .first))) all) (l .inv .2)
 
 pub put-parts-spec : {M : Type 1} → statement M
-put-parts-spec = tie.close (tie.spec Inv-loop μ-loop loop-holds add-signed-4 mul-signed-4 add-signed-4-2 signed-4-requires enum-known-mean enum-told same-length returns put-part-requires add-k loop-less loop-again same-length-2 returns-2)
+put-parts-spec = tie.close (tie.spec
+    Inv-loop μ-loop loop-holds add-signed-4 mul-signed-4 add-signed-4-2 signed-4-requires enum-known-mean enum-told same-length
+    returns put-part-requires add-k loop-less loop-again same-length-2 returns-2)

@@ -1,4 +1,4 @@
--- A sign where the number is below 0, and its size. Assumes nothing.
+-- A sign where the number is below 0, and its size.
 use mathlib.Core.Path.{sym, ap, _∙_}
 use mathlib.Core.List.{_∷_}
 use lib.IntN.{natAbs}
@@ -54,4 +54,6 @@ returns-2 c =
     (c .before .before .put-decimal2 .ensures)
 
 pub put-signed-spec : {M : Type 1} → statement M
-put-signed-spec = tie.close (tie.spec slice-aggregate-put put-requires size-requires put-decimal-requires same-length returns size-requires-2 put-decimal-requires-2 same-length-2 returns-2)
+put-signed-spec = tie.close (tie.spec
+    slice-aggregate-put put-requires size-requires put-decimal-requires same-length returns size-requires-2 put-decimal-requires-2
+    same-length-2 returns-2)
