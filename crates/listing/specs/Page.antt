@@ -18,7 +18,8 @@ cut (suc n) [] ys = refl
 cut (suc n) (x ∷ xs) ys = ap (λ rest. x ∷ rest) (cut n xs ys)
 
 -- one text, then another behind it
-pub both : {page between now text more : List ℕ} {at middle end : ℕ} → Added page at text between middle → length between ≡ length page → Added between middle more now end
+pub both : {page between now text more : List ℕ} {at middle end : ℕ}
+    → Added page at text between middle → length between ≡ length page → Added between middle more now end
     → Added page at (text ++ more) now end
 both {page} {between} {now} {text} {more} {at} {middle} {end} a same b = record {
   counted = b .counted;
