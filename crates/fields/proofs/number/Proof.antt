@@ -66,18 +66,5 @@ returns c =
     l .inv .0 ∙ ap (λ n. unsigned n (c .before .before .args .at) (now (c .before .before .args .s))) all
 
 pub number-spec : {M : Type 1} → statement M
-number-spec =
-    tie.close
-    (tie.spec
-    Inv-loop
-    μ-loop
-    loop-holds
-    add-byte
-    shared-slice-read-byte
-    cast-byte
-    mul-value
-    add-value
-    add-i
-    loop-less
-    loop-again
-    returns)
+number-spec = tie.close (tie.spec
+    Inv-loop μ-loop loop-holds add-byte shared-slice-read-byte cast-byte mul-value add-value add-i loop-less loop-again returns)

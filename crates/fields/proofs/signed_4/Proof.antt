@@ -81,15 +81,4 @@ returns-3 c =
     ∙ sym (signed-value (a .at) (now (a .s)) (was-read (c .before) .0))
 
 pub signed-4-spec : {M : Type 1} → statement M
-signed-4-spec =
-    tie.close
-    (tie.spec
-    unsigned-4-requires
-    enum-known-v
-    enum-told
-    returns
-    cast-t7
-    cast-t8
-    sub-t9
-    returns-2
-    returns-3)
+signed-4-spec = tie.close (tie.spec unsigned-4-requires enum-known-v enum-told returns cast-t7 cast-t8 sub-t9 returns-2 returns-3)

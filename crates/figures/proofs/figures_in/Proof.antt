@@ -176,18 +176,6 @@ returns : tie.Need-returns
 returns c = (figures-are c, of-file (Q c) .means-are)
 
 pub figures-in-spec : {M : Type 1} → statement M
-figures-in-spec =
-    tie.close
-    (tie.spec
-    last-year-requires
-    column-weights-requires
-    prior-weights-requires
-    own-weights-requires
-    ratio-weights-requires
-    shares-requires
-    logarithms-requires
-    prior-means-requires
-    ratio-sums-requires
-    right-hand-of-requires
-    fill-matrix-requires
-    returns)
+figures-in-spec = tie.close (tie.spec
+    last-year-requires column-weights-requires prior-weights-requires own-weights-requires ratio-weights-requires shares-requires
+    logarithms-requires prior-means-requires ratio-sums-requires right-hand-of-requires fill-matrix-requires returns)

@@ -84,25 +84,6 @@ returns c =
     }
 
 pub four-logarithms-of-spec : {M : Type 1} → statement M
-four-logarithms-of-spec =
-    tie.close
-    (tie.spec
-    Inv-loop
-    μ-loop
-    start-requires
-    start-requires-2
-    start-requires-3
-    start-requires-4
-    loop-holds
-    squared-requires
-    squared-requires-2
-    squared-requires-3
-    squared-requires-4
-    add-i
-    loop-less
-    loop-again
-    cast-t11
-    cast-t13
-    cast-t15
-    cast-t17
-    returns)
+four-logarithms-of-spec = tie.close (tie.spec
+    Inv-loop μ-loop start-requires start-requires-2 start-requires-3 start-requires-4 loop-holds squared-requires squared-requires-2
+    squared-requires-3 squared-requires-4 add-i loop-less loop-again cast-t11 cast-t13 cast-t15 cast-t17 returns)

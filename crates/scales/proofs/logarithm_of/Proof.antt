@@ -38,16 +38,5 @@ returns c =
     after-ticks (l .loop .inv) (c .before .loop-test .left) (l .before .start .ensures)
 
 pub logarithm-of-spec : {M : Type 1} → statement M
-logarithm-of-spec =
-    tie.close
-    (tie.spec
-    Inv-loop
-    μ-loop
-    start-requires
-    loop-holds
-    squared-requires
-    add-i
-    loop-less
-    loop-again
-    cast-t5
-    returns)
+logarithm-of-spec = tie.close (tie.spec
+    Inv-loop μ-loop start-requires loop-holds squared-requires add-i loop-less loop-again cast-t5 returns)

@@ -50,17 +50,5 @@ returns : tie.Need-returns Inv-loop μ-loop
 returns c = record { whole = rows-to (omega arith) (c .before .loop .inv .1) }
 
 pub fill-matrix-spec : {M : Type 1} → statement M
-fill-matrix-spec =
-    tie.close
-    (tie.spec
-    Inv-loop
-    μ-loop
-    mul-count
-    add-count
-    turned-shares-requires
-    loop-holds
-    fill-row-requires
-    add-k
-    loop-less
-    loop-again
-    returns)
+fill-matrix-spec = tie.close (tie.spec
+    Inv-loop μ-loop mul-count add-count turned-shares-requires loop-holds fill-row-requires add-k loop-less loop-again returns)
