@@ -92,10 +92,13 @@ module _ (f : Bytes) (h : AcceptedFile f) where
 
   ratio-sum-to : (m : ℕ) → m ≤ J → natAbs (ratiosOfLast c m) ≤ 2 ^ 58
   ratio-sum-to m few =
-      let term : ℕ → ℤ = λ d. pos (c .g d) *ℤ c .y (J - d) in
-      let bounded = total-bound m (2 ^ 53) {f = λ d. natAbs (term d)} (λ d below.
-      natAbs-*-≤ (pos (c .g d)) (c .y (J - d)) (g-to f h d (omega arith)) (y-limit f h (J - d) (omega arith))) in
-      rw (ratios-by-development c m few) (omega (arith, h .years .to, sum-size m term, bounded))
+      rw (ratios-by-development c m few) (omega (arith, h .years .to, sum-size m term, total-bound m (2 ^ 53) term-to))
+    where
+      term : ℕ → ℤ
+      term d = pos (c .g d) *ℤ c .y (J - d)
+
+      term-to : (d : ℕ) → d < m → natAbs (term d) ≤ 2 ^ 53
+      term-to d below = natAbs-*-≤ (pos (c .g d)) (c .y (J - d)) (g-to f h d (omega arith)) (y-limit f h (J - d) (omega arith))
 
   module _ {a : Arrays} (r : OfFile f J a) where
     ratios-are : (m : ℕ) → m ≤ J → part (a .ratios) m ≡ ratiosOfLast c m

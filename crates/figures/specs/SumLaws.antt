@@ -102,19 +102,23 @@ module _ (logs : List ℤ) (J k : ℕ) where
 stepSum-small : (logs : List ℤ) (J first n : ℕ) → OfSteps logs J first n → natAbs (stepSum logs J first n) ≤ 2 ^ 31
 unfolding stepSum
 stepSum-small logs J first n h =
-    let step : (i : ℕ) → i < n → natAbs (stepOf logs J first i) ≤ 2 ^ 27 =
-    λ i below. let c : ℕ = first + rowStart J i in
-    let inside = h .inside i below in
-    difference-small logs J (c + 1) c (h .logs-small) inside (omega arith) in
-    omega (arith, h .few, h .logs-small .few, sum-size n (stepOf logs J first), total-bound n (2 ^ 27) step)
+    omega (arith, h .few, h .logs-small .few, sum-size n (stepOf logs J first), total-bound n (2 ^ 27) step-small)
+  where
+    step-small : (i : ℕ) → i < n → natAbs (stepOf logs J first i) ≤ 2 ^ 27
+    step-small i below =
+        let c : ℕ = first + rowStart J i in
+        let inside = h .inside i below in
+        difference-small logs J (c + 1) c (h .logs-small) inside (omega arith)
 
 startSum-small : (logs : List ℤ) (J : ℕ) → Logs logs J → natAbs (startSum logs J) ≤ 2 ^ 31
 unfolding startSum
-startSum-small logs J h =
-    let start : ℕ → ℤ = λ i. part logs (rowStart J i) in
-    let small : (i : ℕ) → i < J + 1 → natAbs (start i) ≤ 2 ^ 26 =
-    λ i below. h .small (rowStart J i) (omega (arith, cell-below J i 0 (omega arith))) in
-    omega (arith, h .few, sum-size (J + 1) start, total-bound (J + 1) (2 ^ 26) small)
+startSum-small logs J h = omega (arith, h .few, sum-size (J + 1) start, total-bound (J + 1) (2 ^ 26) small)
+  where
+    start : ℕ → ℤ
+    start i = part logs (rowStart J i)
+
+    small : (i : ℕ) → i < J + 1 → natAbs (start i) ≤ 2 ^ 26
+    small i below = h .small (rowStart J i) (omega (arith, cell-below J i 0 (omega arith)))
 
 pub columnSum-small : (logs : List ℤ) (J k : ℕ) → Logs logs J → k < parts J → natAbs (columnSum logs J k) ≤ 2 ^ 31
 columnSum-small logs J k h below = by-kind (ℕ-discrete k 0) (decLe k J)

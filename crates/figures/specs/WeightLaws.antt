@@ -95,10 +95,13 @@ ratioVariance-next f k below =
 pub ratioVariance-small : (f : Bytes) (k : ℕ) → Adds f → ratioVariance f k ≤ 30 * 2 ^ 40
 unfolding ratioVariance
 ratioVariance-small f k h =
-    let paid = total-bound (lastYear f - k) (2 ^ 40) {f = λ i. σ² f (k + 1 + i)} (λ i below. h .small (k + 1 + i) (omega arith)) in
-    let incurred = total-bound (lastYear f - k) (2 ^ 40) {f = λ i. τ² f (k + i)} (λ i below.
-    h .small (psiIndex (lastYear f) (k + i)) (omega arith)) in
-    omega (arith, h .whole .high)
+    omega (arith, h .whole .high, total-bound (lastYear f - k) (2 ^ 40) paid, total-bound (lastYear f - k) (2 ^ 40) incurred)
+  where
+    paid : (i : ℕ) → i < lastYear f - k → σ² f (k + 1 + i) ≤ 2 ^ 40
+    paid i below = h .small (k + 1 + i) (omega arith)
+
+    incurred : (i : ℕ) → i < lastYear f - k → τ² f (k + i) ≤ 2 ^ 40
+    incurred i below = h .small (psiIndex (lastYear f) (k + i)) (omega arith)
 
 pub added-none : (f : Bytes) → Added (lastYear f) f 0 (replicate 15 0)
 unfolding ratioVariance

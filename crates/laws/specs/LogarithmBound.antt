@@ -145,7 +145,7 @@ all-squarings (suc k) {p} {l} {y} {c} b =
           (after .bracket);
     }
 
--- ---- the start: h is the place of the highest one bit
+-- ---- the start: h bits stand behind the first one
 
 module _ (a h : ℕ) (from : 2 ^ h ≤ a) (to : a < 2 ^ suc h) where
   -- shifted up, with nothing lost

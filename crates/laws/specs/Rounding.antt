@@ -47,13 +47,15 @@ module _ (c : Chain) (m : ℕ) (u μ : Vector) (k : ℕ) where
   pub residue-of-rounding : 1 ≤ m → residueTimes c m u k ≡ pos 0 → ((l : ℕ) → l < n → 2 * natAbs (w l) ≤ m)
       → 2 * natAbs r ≤ sizes n A
   residue-of-rounding some none half =
-      let products : total n (λ l. natAbs (A l *ℤ w l) * 2) ≤ total n (λ l. natAbs (A l) * m) =
-      total-mono n (λ l below. omega (arith, natAbs-* (A l) (w l), mul-le-mul-left (natAbs (A l)) (half l below))) in
-      let size : natAbs (sum n (λ l. A l *ℤ w l)) ≡ m * natAbs r =
-      ap natAbs (residue-at-distance none) ∙ natAbs-neg (pos m *ℤ r) ∙ natAbs-* (pos m) r in
       let twice = total-scale-right n 2 (λ l. natAbs (A l *ℤ w l)) in
       let times = total-scale-right n m (λ l. natAbs (A l)) in
-      le-of-mul-le-mul-left {k = m} (omega (arith, sum-size n (λ l. A l *ℤ w l))) some
+      le-of-mul-le-mul-left {k = m} (omega (arith, sum-size n (λ l. A l *ℤ w l), size, total-mono n product)) some
+    where
+      product : (l : ℕ) → l < n → natAbs (A l *ℤ w l) * 2 ≤ natAbs (A l) * m
+      product l below = omega (arith, natAbs-* (A l) (w l), mul-le-mul-left (natAbs (A l)) (half l below))
+
+      size : natAbs (sum n (λ l. A l *ℤ w l)) ≡ m * natAbs r
+      size = ap natAbs (residue-at-distance none) ∙ natAbs-neg (pos m *ℤ r) ∙ natAbs-* (pos m) r
 
 -- with at most 15 years, and e at least 121
 pub rounding-passes : (c : Chain) → Owned c → c .last ≤ 15 → (e : ℕ) → 121 ≤ e → (m : ℕ) (u μ : Vector) → 1 ≤ m

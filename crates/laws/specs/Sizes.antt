@@ -120,18 +120,27 @@ module _ (c : Chain) where
     pub target-limit : (k : ℕ) → k < n → natAbs (rightHand c k) ≤ (W + J * G) * X
     unfolding rightHand
     target-limit k below =
-        let r : ℕ = rank k in
-        let in-years : r ≤ J = rank-below J k below in
-        let of-year : (d : ℕ) → d < r → natAbs (pos (c .g d) *ℤ c .y (J - d)) ≤ G * X =
-        λ d d-below. natAbs-*-≤ (pos (c .g d)) (c .y (J - d)) (shares-of k below d d-below) (h .ratios-to d (omega arith)) in
-        let ratios : natAbs (ratiosOfLast c r) ≤ r * (G * X) =
-        rw (ratios-by-development c r in-years)
-        (le-trans (sum-size r (λ d. pos (c .g d) *ℤ c .y (J - d))) (total-bound r (G * X) of-year)) in
-        let signed : natAbs (signOf (kind k) *ℤ ratiosOfLast c r) ≡ natAbs (ratiosOfLast c r) = one-sign (kind k) (ratiosOfLast c r) in
+        let signed = one-sign (kind k) (ratiosOfLast c r) in
+        let firsts = h .firsts-to k below in
         rw (target-by-rank c (kind k))
         (le-trans (natAbs-+ (firstsOf c (kind k)) (signOf (kind k) *ℤ ratiosOfLast c r))
-        (omega (arith, h .firsts-to k below, mul-le-mul-right X (h .own-to k below), mul-le-mul-right (G * X) in-years)))
+        (omega (arith, ratios, mul-le-mul-right X (h .own-to k below), mul-le-mul-right (G * X) in-years)))
       where
+        r : ℕ
+        r = rank k
+
+        in-years : r ≤ J
+        in-years = rank-below J k below
+
+        term : ℕ → ℤ
+        term d = pos (c .g d) *ℤ c .y (J - d)
+
+        term-to : (d : ℕ) → d < r → natAbs (term d) ≤ G * X
+        term-to d past = natAbs-*-≤ (pos (c .g d)) (c .y (J - d)) (shares-of k below d past) (h .ratios-to d (omega (arith, in-years)))
+
+        ratios : natAbs (ratiosOfLast c r) ≤ r * (G * X)
+        ratios = rw (ratios-by-development c r in-years) (le-trans (sum-size r term) (total-bound r (G * X) term-to))
+
         one-sign : (a : Part) (z : ℤ) → natAbs (signOf a *ℤ z) ≡ natAbs z
         one-sign (Φ j) z = natAbs-* (pos 1) z ∙ omega arith
         one-sign (Ψ j) z = natAbs-* (negsuc 0) z ∙ omega arith

@@ -115,13 +115,15 @@ module _ (f : Bytes) (h : AcceptedFile f) where
         ap₂ (λ r v. r *ℤ (v -ℤ part μ k)) (ap₂ _+ℤ_ before after) (step-at F μ k in-figures there)
         ∙ ring (residue F (part μ) k ∷ entry F k k ∷ δ ∷ []) (λ r a d. (r ⊞ (r ⊞ a ⊠ d)) ⊠ d ≐ d ⊠ (num 2 ⊠ r ⊞ a ⊠ d)) tt
 
+    difference : loss c (part ν) ≡ loss c (part μ) +ℤ δ *ℤ (pos 2 *ℤ residue F (part μ) k +ℤ entry F k k *ℤ δ)
+    difference =
+        loss-difference c (part ν) (part μ)
+        ∙ ap (λ s. loss c (part μ) +ℤ s) (sum-one (parts (lastYear f)) k below (λ l _ away. elsewhere l away) ∙ here)
+
     pub step-lowers : loss c (part ν) ≤ℤ loss c (part μ)
     unfolding change
     step-lowers =
         let fall = moved-falls (entry F k k) (residue F (part μ) k) (part μ k) (diagonal-at-least-one k below) (m .inside k) in
-        let difference =
-        loss-difference c (part ν) (part μ)
-        ∙ ap (λ s. loss c (part μ) +ℤ s) (sum-one (parts (lastYear f)) k below (λ l _ away. elsewhere l away) ∙ here) in
         rw difference (simp linear (omega (zarith, simp linear at fall)))
 
   -- ---- one sweep, and the sweeps of a call
