@@ -1,4 +1,4 @@
--- Bytes as text: two lower-case digits each. What the contract of `hex` cites, and the law that its loop goes by. Assumes nothing.
+-- Bytes as text: two lower-case digits each. What the contract of `hex` cites, and the law that its loop goes by.
 use Prim.Native.Nat.{ℕ, suc, _+_, _/_, _%_, _<_}
 use mathlib.Core.Path.{_≡_, refl, sym, ap, ap₂, _∙_}
 use mathlib.Core.List.{List, [], _∷_, _++_, append-assoc}
@@ -21,7 +21,8 @@ hex-last [] b = refl
 hex-last (x ∷ bs) b = ap (λ rest. glyph (x / 16) ∷ glyph (x % 16) ∷ rest) (hex-last bs b)
 
 -- two digits behind those of the bytes before
-pub hex-next : (text bs : List ℕ) (end i a b : ℕ) → end + 1 < length text → i < length bs → take end text ≡ hexOf (take i bs) → a ≡ glyph (getD bs i 0 / 16) → b ≡ glyph (getD bs i 0 % 16)
+pub hex-next : (text bs : List ℕ) (end i a b : ℕ) → end + 1 < length text → i < length bs → take end text ≡ hexOf (take i bs)
+    → a ≡ glyph (getD bs i 0 / 16) → b ≡ glyph (getD bs i 0 % 16)
     → take (end + 2) (set (set text end a) (end + 1) b) ≡ hexOf (take (i + 1) bs)
 hex-next text bs end i a b room below before first second =
     let two : end + 2 ≡ suc (end + 1) = omega arith in

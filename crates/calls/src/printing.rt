@@ -74,7 +74,8 @@ fn digit(d: u8) -> u8
 // Two lower-case digits for each byte, as far as there is room; and how many.
 fn hex(bytes: &[u8], text: &mut [u8]) -> usize
     ensures { λ r. ⌜ Counts r (now (text .exit)) ⌝ }
-    ensures { λ r. ⌜ (2 * length (now (bytes .entry)) ≤ length (now (text .entry)) → take r (now (text .exit)) ≡ hexOf (now (bytes .entry))) ⌝ }
+    ensures { λ r. ⌜ (2 * length (now (bytes .entry)) ≤ length (now (text .entry))
+        → take r (now (text .exit)) ≡ hexOf (now (bytes .entry))) ⌝ }
 {
     let mut i = 0usize;
     let mut end = 0usize;

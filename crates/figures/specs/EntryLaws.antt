@@ -7,13 +7,13 @@ use native.Mathlib.Nat.{eq-or-lt-of-le, zero-add, add-comm}
 use mathlib.Core.Bool.{Bool, true, false}
 use native.Mathlib.Omega.{arith}
 use borrow.Author.Tests.{leb-true, leb-false, eqb-true, eqb-false}
-use lib.Dec.{leb, eqb, eqb→eq, eqb-refl, not-T}
+use lib.Dec.{leb, eqb}
 use lib.IntN.{ℤ, pos, natAbs, _+ℤ_, _*ℤ_, +ℤ-idl}
 use lib.ListN.{length, set, length-set}
 use lib.Seq.{getD-set-same, getD-set-other}
 use Rattle.integers.specs.Ring.{*ℤ-idl}
 use Rattle.integers.specs.Size.{natAbs-neg}
-use Rattle.integers.specs.SumRange.{only-yes, only-no}
+use Rattle.integers.specs.SumRange.{only-same, only-apart}
 use Rattle.integers.specs.Solver.{ring, _⊠_, ⊖_, num, _≐_}
 use Rattle.definitions.specs.Words.{part}
 use Rattle.definitions.specs.Layout.{parts}
@@ -54,21 +54,29 @@ module _ {shares turned : List ℤ} {J : ℕ} (t : Turned shares J turned) where
   pub turned-small : ((n : ℕ) → n ≤ J → natAbs (part shares n) < 2 ^ 40) → (n : ℕ) → n ≤ J → natAbs (part turned n) < 2 ^ 40
   turned-small small n h = subst (λ z. z < 2 ^ 40) (sym (ap natAbs (t .turns n h) ∙ natAbs-neg (part shares n))) (small n h)
 
-  pub by-kinds : (a b : Part) (n : ℕ) → n ≤ J → part (ofKind (ofKind shares turned a) (ofKind turned shares a) b) n ≡ signOf a *ℤ signOf b *ℤ part shares n
+  pub by-kinds : (a b : Part) (n : ℕ) → n ≤ J
+      → part (ofKind (ofKind shares turned a) (ofKind turned shares a) b) n ≡ signOf a *ℤ signOf b *ℤ part shares n
   by-kinds (Φ i) (Φ j) n h = sym (*ℤ-idl (part shares n))
   by-kinds (Ψ i) (Ψ j) n h = sym (*ℤ-idl (part shares n))
   by-kinds (Φ i) (Ψ j) n h = t .turns n h ∙ ring (part shares n ∷ []) (λ z. ⊖ z ≐ num 1 ⊠ ⊖ num 1 ⊠ z) tt
   by-kinds (Ψ i) (Φ j) n h = t .turns n h ∙ ring (part shares n ∷ []) (λ z. ⊖ z ≐ ⊖ num 1 ⊠ num 1 ⊠ z) tt
 
-  by-row : (k : ℕ) → k < parts J → (l : ℕ) → sharedBy (ofKind shares turned (partOf J k)) (ofKind turned shares (partOf J k)) J k l ≡ shareOf shares J k l
+  -- the row of a part of this kind
+  abbrev rowOf : Part → ℕ → ℕ → ℤ
+  rowOf a = sharedBy (ofKind shares turned a) (ofKind turned shares a) J
+
+  by-row : (k : ℕ) → k < parts J → (l : ℕ) → rowOf (partOf J k) k l ≡ shareOf shares J k l
   unfolding sharedBy
-  by-row k h l = by-kinds (partOf J k) (partOf J l) (min (rankOf (partOf J k)) (rankOf (partOf J l))) (omega (arith, rank-below J k h))
+  by-row k h l =
+      let a : Part = partOf J k in
+      let b : Part = partOf J l in
+      by-kinds a b (min (rankOf a) (rankOf b)) (omega (arith, rank-below J k h))
 
   pub phi-row : (k : ℕ) → k < parts J → k ≤ J → (l : ℕ) → sharedBy shares turned J k l ≡ shareOf shares J k l
-  phi-row k h phi l = ap (λ a. sharedBy (ofKind shares turned a) (ofKind turned shares a) J k l) (sym (part-phi J k phi)) ∙ by-row k h l
+  phi-row k h phi l = ap (λ a. rowOf a k l) (sym (part-phi J k phi)) ∙ by-row k h l
 
   pub psi-row : (k : ℕ) → k < parts J → J < k → (l : ℕ) → sharedBy turned shares J k l ≡ shareOf shares J k l
-  psi-row k h psi l = ap (λ a. sharedBy (ofKind shares turned a) (ofKind turned shares a) J k l) (sym (part-psi J k psi)) ∙ by-row k h l
+  psi-row k h psi l = ap (λ a. rowOf a k l) (sym (part-psi J k psi)) ∙ by-row k h l
 
 -- a row's two runs: over the Φ, whose ranks start at 0, and over the Ψ, whose ranks start at 1
 module _ (phis psis : List ℤ) (J k rank : ℕ) (e : rank ≡ rankOf (partOf J k)) where
@@ -84,12 +92,12 @@ module _ (phis psis : List ℤ) (J k rank : ℕ) (e : rank ≡ rankOf (partOf J 
 module _ (own : List ℕ) (shares : List ℤ) (J k : ℕ) where
   pub entry-on : pos (at own k) +ℤ shareOf shares J k k ≡ entryOf own shares J k k
   unfolding entryOf
-  entry-on = ap (λ x. x +ℤ shareOf shares J k k) (sym (only-yes (eqb k k) (pos (at own k)) (eqb-refl k)))
+  entry-on = ap (λ x. x +ℤ shareOf shares J k k) (sym (only-same k (pos (at own k))))
 
   pub entry-off : (l : ℕ) → k ≢ l → shareOf shares J k l ≡ entryOf own shares J k l
   unfolding entryOf
   entry-off l apart =
-      sym (+ℤ-idl (shareOf shares J k l)) ∙ ap (λ x. x +ℤ shareOf shares J k l) (sym (only-no (eqb k l) (pos (at own k)) (not-T (eqb k l) (λ t. apart (eqb→eq k l t)))))
+      sym (+ℤ-idl (shareOf shares J k l)) ∙ ap (λ x. x +ℤ shareOf shares J k l) (sym (only-apart k l (pos (at own k)) apart))
 
 -- ---- stretches and rows
 
@@ -115,12 +123,18 @@ module _ {at : ℕ} {f : ℕ → ℤ} {before : List ℤ} where
       by-place : (l : ℕ) → l < n′ → (b : Bool) → eqb i l ≡ b → part (set m (at + i) z) (at + l) ≡ g l
       by-place l below true t =
           let here = eqb-true i l t in
-          ap (λ n. part (set m (at + i) z) (at + n)) (sym here) ∙ getD-set-same m (at + i) z (pos 0) (omega (arith, h .long)) ∙ e ∙ ap g here
+          ap (λ n. part (set m (at + i) z) (at + n)) (sym here)
+          ∙ getD-set-same m (at + i) z (pos 0) (omega (arith, h .long))
+          ∙ e
+          ∙ ap g here
       by-place l below false t =
           let apart = eqb-false i l t in
-          getD-set-other m (at + i) (at + l) z (pos 0) (λ same. apart (omega arith)) ∙ h .there l (others l below apart .0) ∙ others l below apart .1
+          getD-set-other m (at + i) (at + l) z (pos 0) (λ same. apart (omega arith))
+          ∙ h .there l (others l below apart .0)
+          ∙ others l below apart .1
 
-  pub stretch-next : {n : ℕ} {m : List ℤ} {z : ℤ} → Stretch n at f before m → at + n < 961 → z ≡ f n → Stretch (n + 1) at f before (set m (at + n) z)
+  pub stretch-next : {n : ℕ} {m : List ℤ} {z : ℤ} → Stretch n at f before m → at + n < 961 → z ≡ f n
+      → Stretch (n + 1) at f before (set m (at + n) z)
   stretch-next h room e = stretch-put h room e (λ l below apart. (omega arith, refl))
 
   -- one stretch behind another
@@ -145,7 +159,8 @@ module _ {own : List ℕ} {shares : List ℤ} {last : ℕ} where
   pub rows-none : (m : List ℤ) → length m ≡ 961 → RowsTo 0 own shares last m
   rows-none m long = record { long = long; there = λ k below. absurd (omega arith) }
 
-  pub rows-next : {n : ℕ} {before m : List ℤ} → last ≤ 15 → RowsTo n own shares last before → RowOf before own shares last n m → RowsTo (n + 1) own shares last m
+  pub rows-next : {n : ℕ} {before m : List ℤ} → last ≤ 15 → RowsTo n own shares last before → RowOf before own shares last n m
+      → RowsTo (n + 1) own shares last m
   rows-next {n} {before} {m} few h r = record { long = r .whole .long; there = λ k below. by-row k (eq-or-lt-of-le (omega arith)) }
     where
       by-row : (k : ℕ) → (k ≡ n) ⊎ (k < n) → (l : ℕ) → l < parts last → part m (31 * k + l) ≡ entryOf own shares last k l

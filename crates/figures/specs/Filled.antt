@@ -19,7 +19,11 @@ empty-at (suc n) zero a = refl
 empty-at (suc n) (suc i) a = empty-at n i a
 
 pub filled-none : {A : Type 0} (size : ℕ) (empty : A) (f : ℕ → A) → Filled size 0 empty f (replicate size empty)
-filled-none size empty f = record { long = length-replicate size empty; front = λ i below. absurd (omega arith); rest = λ i _. empty-at size i empty }
+filled-none size empty f = record {
+  long = length-replicate size empty;
+  front = λ i below. absurd (omega arith);
+  rest = λ i _. empty-at size i empty;
+}
 
 module _ {A : Type 0} {size k : ℕ} {empty : A} {f : ℕ → A} {v : List A} where
   pub filled-next : {a : A} → Filled size k empty f v → k < size → a ≡ f k → Filled size (k + 1) empty f (set v k a)
@@ -30,7 +34,11 @@ module _ {A : Type 0} {size k : ℕ} {empty : A} {f : ℕ → A} {v : List A} wh
   }
     where
       by-place : (i : ℕ) → (i ≡ k) ⊎ (i < k) → getD (set v k a) i empty ≡ f i
-      by-place i (inl here) = ap (λ n. getD (set v k a) n empty) here ∙ getD-set-same v k a empty (omega (arith, h .long)) ∙ e ∙ ap f (sym here)
+      by-place i (inl here) =
+          ap (λ n. getD (set v k a) n empty) here
+          ∙ getD-set-same v k a empty (omega (arith, h .long))
+          ∙ e
+          ∙ ap f (sym here)
       by-place i (inr earlier) = getD-set-other v k i a empty (λ same. omega arith) ∙ h .front i earlier
 
   pub filled-to : {n : ℕ} → k ≡ n → Filled size k empty f v → Filled size n empty f v

@@ -31,8 +31,10 @@ unfolding rowStart
 rowStart-next J i = total-next i (λ r. J + 1 - r)
 
 -- the difference of two logarithms
-pub difference-small : (logs : List ℤ) (last c d : ℕ) → Logs logs last → c < 2 * cells last → d < 2 * cells last → natAbs (part logs c -ℤ part logs d) ≤ 2 ^ 27
-difference-small logs last c d h c-below d-below = le-trans (natAbs-- (part logs c) (part logs d)) (omega (arith, h .small c c-below, h .small d d-below))
+pub difference-small : (logs : List ℤ) (last c d : ℕ) → Logs logs last → c < 2 * cells last → d < 2 * cells last
+    → natAbs (part logs c -ℤ part logs d) ≤ 2 ^ 27
+difference-small logs last c d h c-below d-below =
+    le-trans (natAbs-- (part logs c) (part logs d)) (omega (arith, h .small c c-below, h .small d d-below))
 
 -- sums of at most 16 numbers of at most 2^58
 pub sum-small : (n : ℕ) (f : ℕ → ℤ) → n ≤ 16 → ((i : ℕ) → i < n → natAbs (f i) ≤ 2 ^ 58) → natAbs (sum n f) < 2 ^ 63
@@ -100,44 +102,54 @@ module _ (logs : List ℤ) (J k : ℕ) where
 stepSum-small : (logs : List ℤ) (J first n : ℕ) → OfSteps logs J first n → natAbs (stepSum logs J first n) ≤ 2 ^ 31
 unfolding stepSum
 stepSum-small logs J first n h =
-    omega (
-      arith,
-      h .few,
-      h .logs-small .few,
-      sum-size n (stepOf logs J first),
-      total-bound n (2 ^ 27) {f = λ i. natAbs (stepOf logs J first i)} (λ i below.
-          difference-small logs J (first + rowStart J i + 1) (first + rowStart J i) (h .logs-small) (h .inside i below) (omega (arith, h .inside i below))),
-    )
+    omega (arith, h .few, h .logs-small .few, sum-size n (stepOf logs J first), total-bound n (2 ^ 27) step-small)
+  where
+    step-small : (i : ℕ) → i < n → natAbs (stepOf logs J first i) ≤ 2 ^ 27
+    step-small i below =
+        let c : ℕ = first + rowStart J i in
+        let inside = h .inside i below in
+        difference-small logs J (c + 1) c (h .logs-small) inside (omega arith)
 
 startSum-small : (logs : List ℤ) (J : ℕ) → Logs logs J → natAbs (startSum logs J) ≤ 2 ^ 31
 unfolding startSum
-startSum-small logs J h =
-    omega (
-      arith,
-      h .few,
-      sum-size (J + 1) (λ i. part logs (rowStart J i)),
-      total-bound (J + 1) (2 ^ 26) {f = λ i. natAbs (part logs (rowStart J i))} (λ i below.
-          h .small (rowStart J i) (omega (arith, cell-below J i 0 (omega arith)))),
-    )
+startSum-small logs J h = omega (arith, h .few, sum-size (J + 1) start, total-bound (J + 1) (2 ^ 26) small)
+  where
+    start : ℕ → ℤ
+    start i = part logs (rowStart J i)
+
+    small : (i : ℕ) → i < J + 1 → natAbs (start i) ≤ 2 ^ 26
+    small i below = h .small (rowStart J i) (omega (arith, cell-below J i 0 (omega arith)))
 
 pub columnSum-small : (logs : List ℤ) (J k : ℕ) → Logs logs J → k < parts J → natAbs (columnSum logs J k) ≤ 2 ^ 31
 columnSum-small logs J k h below = by-kind (ℕ-discrete k 0) (decLe k J)
   where
     by-kind : Dec (k ≡ 0) → Dec (k ≤ J) → natAbs (columnSum logs J k) ≤ 2 ^ 31
     by-kind (yes none) side = rw (column-start logs J k none) (startSum-small logs J h)
-    by-kind (no some) (yes few) = rw (column-phi logs J k some few) (stepSum-small logs J (k - 1) (observations J k) (steps-phi logs J k h some few))
-    by-kind (no some) (no past) =
-        rw (column-psi logs J k (lt-of-not-le past) below) (stepSum-small logs J (cells J + (k - J - 1)) (observations J k) (steps-psi logs J k h (lt-of-not-le past) below))
+    by-kind (no some) (yes few) =
+        rw (column-phi logs J k some few)
+        (stepSum-small logs J (k - 1) (observations J k) (steps-phi logs J k h some few))
+    by-kind (no some) (no above) =
+        let past : J < k = lt-of-not-le above in
+        rw (column-psi logs J k past below)
+        (stepSum-small logs J (cells J + (k - J - 1)) (observations J k) (steps-psi logs J k h past below))
 
 -- ---- the right-hand side of a Φ and of a Ψ
 
 module _ (s : List ℕ) (prior : List ℤ) (p : List ℕ) (logs ratios : List ℤ) (J k : ℕ) where
-  pub target-phi : k ≤ J → pos (at s k) *ℤ part prior k +ℤ pos (at p k) *ℤ columnSum logs J k +ℤ part ratios (rankOf (partOf J k)) ≡ targetFrom s prior p logs ratios J k
-  unfolding targetFrom
-  target-phi few = ap (λ z. pos (at s k) *ℤ part prior k +ℤ pos (at p k) *ℤ columnSum logs J k +ℤ z)
-      (sym (ap (λ a. signOf a *ℤ part ratios (rankOf (partOf J k))) (partOf-phi J k few) ∙ *ℤ-idl (part ratios (rankOf (partOf J k)))))
+  -- the part's prior and its own observations
+  abbrev pub ownSide : ℤ
+  ownSide = pos (at s k) *ℤ part prior k +ℤ pos (at p k) *ℤ columnSum logs J k
 
-  pub target-psi : J < k → pos (at s k) *ℤ part prior k +ℤ pos (at p k) *ℤ columnSum logs J k -ℤ part ratios (rankOf (partOf J k)) ≡ targetFrom s prior p logs ratios J k
+  -- the ratios that it shares in
+  abbrev pub shared : ℤ
+  shared = part ratios (rankOf (partOf J k))
+
+  pub target-phi : k ≤ J → ownSide +ℤ shared ≡ targetFrom s prior p logs ratios J k
   unfolding targetFrom
-  target-psi past = ap (λ z. pos (at s k) *ℤ part prior k +ℤ pos (at p k) *ℤ columnSum logs J k +ℤ z)
-      (sym (ap (λ a. signOf a *ℤ part ratios (rankOf (partOf J k))) (part-psi J k past) ∙ ring (part ratios (rankOf (partOf J k)) ∷ []) (λ z. ⊖ num 1 ⊠ z ≐ ⊖ z) tt))
+  target-phi few = ap (λ z. ownSide +ℤ z) (sym (ap (λ a. signOf a *ℤ shared) (partOf-phi J k few) ∙ *ℤ-idl shared))
+
+  pub target-psi : J < k → ownSide -ℤ shared ≡ targetFrom s prior p logs ratios J k
+  unfolding targetFrom
+  target-psi past =
+      ap (λ z. ownSide +ℤ z)
+      (sym (ap (λ a. signOf a *ℤ shared) (part-psi J k past) ∙ ring (shared ∷ []) (λ z. ⊖ num 1 ⊠ z ≐ ⊖ z) tt))

@@ -32,7 +32,10 @@ pub fn figures_in<'a>(
     file: &'a [u8],
 )
     requires { ⌜ AcceptedFile (now file) ⌝ }
-    ensures { λ _. ⌜ figuresOf (figuresAt (lastYear (now (file .entry))) (closeness (now (file .entry))) (now (own .exit)) (now (matrix .exit)) (now («right_hand» .exit))) ≡ figuresOfFile (now (file .entry)) ⌝ }
+    ensures { λ _. ⌜ figuresOf (figuresAt
+        (lastYear (now (file .entry))) (closeness (now (file .entry)))
+        (now (own .exit)) (now (matrix .exit)) (now («right_hand» .exit)))
+        ≡ figuresOfFile (now (file .entry)) ⌝ }
     ensures { λ _. ⌜ PriorMeans (now (file .entry)) (now (mean .exit)) ⌝ }
 {
     let last = last_year(file);

@@ -79,7 +79,8 @@ fn fill_shares<'a>(
     k: usize,
 )
     requires { ⌜ OfShares (now matrix) (now phis) (now psis) last k ⌝ }
-    ensures { λ r. ⌜ Stretch (parts last) (31 * k) (sharedBy (now (phis .entry)) (now (psis .entry)) last k) (now (matrix .entry)) (now (matrix .exit)) ⌝ }
+    ensures { λ r. ⌜ Stretch (parts last) (31 * k) (sharedBy (now (phis .entry)) (now (psis .entry)) last k)
+        (now (matrix .entry)) (now (matrix .exit)) ⌝ }
 {
     let years = last as usize;
     let row = 31 * k;

@@ -101,7 +101,8 @@ fn right_hand_at<'a>(
     k: usize,
 ) -> i64
     requires { ⌜ OfTarget (now priors) (now means) (now columns) (now logs) (now ratios) last k ⌝ }
-    ensures { λ r. ⌜ r ≡ targetFrom (now (priors .entry)) (now (means .entry)) (now (columns .entry)) (now (logs .entry)) (now (ratios .entry)) last k ⌝ }
+    ensures { λ r. ⌜ r ≡ targetFrom
+        (now (priors .entry)) (now (means .entry)) (now (columns .entry)) (now (logs .entry)) (now (ratios .entry)) last k ⌝ }
 {
     let own = priors[k] as i64 * means[k] + columns[k] as i64 * column_sum(logs, last, k);
     let shared = ratios[rank_of(last, k)];
@@ -120,7 +121,8 @@ pub fn right_hand_of<'a>(
     last: u8,
 ) -> [i64; 31]
     requires { ⌜ OfTargets (now priors) (now means) (now columns) (now logs) (now ratios) last ⌝ }
-    ensures { λ r. ⌜ Targets (now (priors .entry)) (now (means .entry)) (now (columns .entry)) (now (logs .entry)) (now (ratios .entry)) last r ⌝ }
+    ensures { λ r. ⌜ Targets
+        (now (priors .entry)) (now (means .entry)) (now (columns .entry)) (now (logs .entry)) (now (ratios .entry)) last r ⌝ }
 {
     let count = 2 * (last as usize) + 1;
     let mut targets = [0i64; 31];

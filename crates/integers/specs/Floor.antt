@@ -43,4 +43,6 @@ floor-half d r some =
     let q : ℤ = floorDiv (pos (d / 2) -ℤ r) d in
     let low = floor-≤ (pos (d / 2) -ℤ r) some in
     let high = floor-< (pos (d / 2) -ℤ r) some in
-    floor-unique (pos d -ℤ pos 2 *ℤ r) q (omega arith) (simp linear (omega (arith, simp linear at low))) (simp linear (omega (arith, simp linear at high)))
+    floor-unique (pos d -ℤ pos 2 *ℤ r) q (omega arith)
+    (simp linear (omega (arith, simp linear at low)))
+    (simp linear (omega (arith, simp linear at high)))

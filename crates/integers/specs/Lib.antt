@@ -23,16 +23,18 @@
 --   sum, by one term       sum-zero, sum-suc, sum-next                                                                 Sum
 --   sum, term by term      sum-cong, sum-+, sum--, sum-neg, sum-scale, sum-scale-right, sum-const, sum-zeros           Sum
 --   double sums            sum-swap                                                                                    Sum
---   sum over a range       sum-split, sum-first, sum-reverse, sum-one; only, only-yes, only-no, sum-below, sum-from     SumRange
+--   sum over a range       sum-split, sum-first, sum-reverse, sum-one, sum-below, sum-from                             SumRange
+--   what a test picks      only, only-yes, only-no, only-same, only-apart                                              SumRange
 --   sum and order          sum-mono, sum-nonneg, sum-term, sum-positive                                                SumOrder
 --   sum of naturals        total-zero, total-suc, total-next, total-cong, total-+, total-scale-right,
 --                          total-mono, total-bound, total-split, total-grows, total-term, pos-total                    Total
 --   sum of sizes           sizes, sum-size, sum-size-below; else the laws of total                                     Total
 --
--- Names. A law is named by its left side read in order, as in the kit: `*ℤ-+ℤ` is about x · (y + z), `negℤ-*ℤ` about (−x) · y; so of a sum or a
--- size, `sum-+` is about the sum of f k + g k and `natAbs-*` about |a · b|. `-is-` states a ↔, whose halves are `.0` and `.1`; so do `pos-≤`, `pos-<`,
--- `natAbs-≤` and `natAbs-<`. `-next` is at n + 1, as code counts, and `-suc` at `suc n`. `-mono` keeps an order and `-anti` turns it.
--- `-nonneg` ends in 0 ≤ .., `-positive` in 0 < ... `_≤ℤ_` and `_<ℤ_` bind tighter than `_+ℤ_`: their sides stand in parentheses.
+-- Names. A law is named by its left side read in order, as in the kit: `*ℤ-+ℤ` is about x · (y + z), `negℤ-*ℤ` about (−x) · y; so of
+-- a sum or a size, `sum-+` is about the sum of f k + g k and `natAbs-*` about |a · b|. `-is-` states a ↔, whose halves are `.0` and
+-- `.1`; so do `pos-≤`, `pos-<`, `natAbs-≤` and `natAbs-<`. `-next` is at n + 1, as code counts, and `-suc` at `suc n`. `-mono` keeps an
+-- order and `-anti` turns it. `-nonneg` ends in 0 ≤ .., `-positive` in 0 < ... `_≤ℤ_` and `_<ℤ_` bind tighter than `_+ℤ_`: their sides
+-- stand in parentheses.
 pub mod Certificate
 pub mod Floor
 pub mod Linear

@@ -2,11 +2,12 @@
 --
 --     simp linear (omega arith)
 --
--- proves orders and equations between sums, differences, negations and multiples by a number `pos k` or `negsuc k`. Whatever else a summand
--- is, a product too, is an unknown. Hypotheses count while they still are arguments of the goal; one that has a name is listed,
--- `simp linear (omega (arith, simp linear at h))`. Orders and equations between two unknowns or literals need no `simp`: `omega zarith` reads them
--- among the hypotheses in scope and as the goal, so that `simp linear (omega (zarith, simp linear at h))` lists only the compound ones.
--- `natAbs z ≤ b` and `natAbs z < b` are read as two orders. What is not linear is made so by `ring` first, or is a case for `Certificate`.
+-- proves orders and equations between sums, differences, negations and multiples by a number `pos k` or `negsuc k`. Whatever else a
+-- summand is, a product too, is an unknown. Hypotheses count while they still are arguments of the goal; one that has a name is listed,
+-- `simp linear (omega (arith, simp linear at h))`. Orders and equations between two unknowns or literals need no `simp`: `omega zarith`
+-- reads them among the hypotheses in scope and as the goal, so that `simp linear (omega (zarith, simp linear at h))` lists only the
+-- compound ones. `natAbs z ≤ b` and `natAbs z < b` are read as two orders. What is not linear is made so by `ring` first, or is a case
+-- for `Certificate`.
 --
 -- How: an order is `AtLeast`, with a list of what is still to be read. `linear` takes the first of the list apart where it is compound, and
 -- adds its parts to the two sums where it is not.
@@ -87,7 +88,8 @@ losses (minus c z ∷ t) = c * posPart z + losses t
 pub record AtLeast (k g l : ℕ) (t : List Summand) : Type 0 where
   pub sure : l + losses t + k ≤ g + gains t
 
-trade : {k g l g′ l′ : ℕ} {t t′ : List Summand} → g + gains t + (l′ + losses t′) ≡ g′ + gains t′ + (l + losses t) → AtLeast k g l t ↔ AtLeast k g′ l′ t′
+trade : {k g l g′ l′ : ℕ} {t t′ : List Summand} → g + gains t + (l′ + losses t′) ≡ g′ + gains t′ + (l + losses t)
+    → AtLeast k g l t ↔ AtLeast k g′ l′ t′
 trade e = (λ h. record { sure = omega arith }, λ h. record { sure = omega arith })
 
 -- the start, the end, and a summand that is not taken apart
@@ -140,6 +142,10 @@ module _ (k g l c : ℕ) (t : List Summand) where
   pub minus-less : (j : ℕ) (x : ℤ) → AtLeast k g l (minus c (negsuc j *ℤ x) ∷ t) ↔ AtLeast k g l (plus (c * suc j) x ∷ t)
   minus-less j x = trade (omega (arith, ap (λ n. c * n) (is-mul (is (negsuc j)) (is x) .cross)))
 
+pub ruleset products = (plus-times, minus-times, plus-times-right, minus-times-right, plus-less, minus-less)
+
+pub ruleset summands = (plus-sum, minus-sum, plus-neg, minus-neg, products, plus-unknown, minus-unknown, all-read)
+
 -- ---- sizes
 
 pub natAbs-parts : (z : ℤ) → natAbs z ≡ posPart z + negPart z
@@ -148,13 +154,17 @@ natAbs-parts (negsuc n) = omega arith
 
 pub natAbs-≤ : (z : ℤ) (b : ℕ) → (natAbs z ≤ b) ↔ ((z ≤ℤ pos b) × (negℤ (pos b) ≤ℤ z))
 natAbs-≤ (pos n) b = (λ h. (≤ℤ-write _ _ (omega arith), ≤ℤ-write _ _ (omega (arith, is-neg (is (pos b))))), λ h. omega zarith)
-natAbs-≤ (negsuc n) b = (λ h. (≤ℤ-write _ _ (omega arith), ≤ℤ-write _ _ (omega (arith, is-neg (is (pos b))))), λ h. omega (zarith, is-neg (is (pos b))))
+natAbs-≤ (negsuc n) b =
+    let turned = is-neg (is (pos b)) in
+    (λ h. (≤ℤ-write _ _ (omega arith), ≤ℤ-write _ _ (omega arith)), λ h. omega zarith)
 
 pub natAbs-< : (z : ℤ) (b : ℕ) → (natAbs z < b) ↔ ((z <ℤ pos b) × (negℤ (pos b) <ℤ z))
 natAbs-< (pos n) b = (λ h. (<ℤ-write _ _ (omega arith), <ℤ-write _ _ (omega (arith, is-neg (is (pos b))))), λ h. omega zarith)
-natAbs-< (negsuc n) b = (λ h. (<ℤ-write _ _ (omega arith), <ℤ-write _ _ (omega (arith, is-neg (is (pos b))))), λ h. omega (zarith, is-neg (is (pos b))))
+natAbs-< (negsuc n) b =
+    let turned = is-neg (is (pos b)) in
+    (λ h. (<ℤ-write _ _ (omega arith), <ℤ-write _ _ (omega arith)), λ h. omega zarith)
 
-pub ruleset linear = (≤ℤ-sums, <ℤ-sums, ≡ℤ-sums, natAbs-≤, natAbs-<, plus-sum, minus-sum, plus-neg, minus-neg, plus-times, minus-times, plus-times-right, minus-times-right, plus-less, minus-less, plus-unknown, minus-unknown, all-read)
+pub ruleset linear = (≤ℤ-sums, <ℤ-sums, ≡ℤ-sums, natAbs-≤, natAbs-<, summands)
 
 -- ---- examples
 

@@ -1,5 +1,5 @@
--- The order of ℤ: a linear order that sums keep, and products by what is not negative. `≤ℤ-refl`, `<ℤ-≤ℤ-trans`, `<ℤ-irrefl` and `clashℤ` are in
--- `lib.Signed`. What is linear needs no law: see `Linear`.
+-- The order of ℤ: a linear order that sums keep, and products by what is not negative. `≤ℤ-refl`, `<ℤ-≤ℤ-trans`, `<ℤ-irrefl` and
+-- `clashℤ` are in `lib.Signed`. What is linear needs no law: see `Linear`.
 use mathlib.Core.Path.{_≡_, refl, sym, ap, subst}
 use mathlib.Core.Logic.{_↔_, _≢_, _⊎_, inl, inr, ⊎-elim}
 use mathlib.Core.Bool.{Bool, true, false, not}
@@ -88,4 +88,6 @@ square-positive {a = negsuc n} h = pos-< .0 (mul-pos (suc-le-suc zero-le) (suc-l
 
 -- by a factor that is not negative
 pub *ℤ-mono : {a b c : ℤ} → pos 0 ≤ℤ c → a ≤ℤ b → (c *ℤ a) ≤ℤ (c *ℤ b)
-*ℤ-mono {a} {b} {c} h k = ≤ℤ-is-nonneg .1 (rw (← ring (a ∷ b ∷ c ∷ []) (λ a b c. c ⊠ (b ⊟ a) ≐ c ⊠ b ⊟ c ⊠ a) tt) (*ℤ-nonneg h (≤ℤ-is-nonneg .0 k)))
+*ℤ-mono {a} {b} {c} h k =
+    let apart = ring (a ∷ b ∷ c ∷ []) (λ a b c. c ⊠ (b ⊟ a) ≐ c ⊠ b ⊟ c ⊠ a) tt in
+    ≤ℤ-is-nonneg .1 (rw (← apart) (*ℤ-nonneg h (≤ℤ-is-nonneg .0 k)))

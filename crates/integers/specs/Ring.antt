@@ -64,7 +64,12 @@ is-mul-parts (negsuc m) (pos n) = is-shift (is-neg (is (pos (suc m * n)))) (omeg
 is-mul-parts (negsuc m) (negsuc n) = record { cross = omega arith }
 
 pub is-mul : {x y : ℤ} {a b c d : ℕ} → Is x a b → Is y c d → Is (x *ℤ y) (a * c + b * d) (a * d + b * c)
-is-mul {x} {y} {a} {b} {c} {d} h k = is-shift (is-mul-parts x y) (omega (arith, ap (λ t. t * posPart y) (h .cross), ap (λ t. t * negPart y) (h .cross), ap (λ t. t * a) (k .cross), ap (λ t. t * b) (k .cross)))
+is-mul {x} {y} {a} {b} {c} {d} h k =
+    let left-plus = ap (λ t. t * posPart y) (h .cross) in
+    let left-minus = ap (λ t. t * negPart y) (h .cross) in
+    let right-plus = ap (λ t. t * a) (k .cross) in
+    let right-minus = ap (λ t. t * b) (k .cross) in
+    is-shift (is-mul-parts x y) (omega arith)
 
 pub *ℤ-+ℤ : (x y z : ℤ) → x *ℤ (y +ℤ z) ≡ x *ℤ y +ℤ x *ℤ z
 *ℤ-+ℤ x y z = is-unique (is-mul (is x) (is-add (is y) (is z))) (is-add (is-mul (is x) (is y)) (is-mul (is x) (is z))) (omega arith)
@@ -83,7 +88,9 @@ pub *ℤ-idr : (x : ℤ) → x *ℤ pos 1 ≡ x
 
 -- four summands, the middle two exchanged
 pub +ℤ-exchange : (a b c d : ℤ) → (a +ℤ b) +ℤ (c +ℤ d) ≡ (a +ℤ c) +ℤ (b +ℤ d)
-+ℤ-exchange a b c d = is-unique (is-add (is-add (is a) (is b)) (is-add (is c) (is d))) (is-add (is-add (is a) (is c)) (is-add (is b) (is d))) (omega arith)
++ℤ-exchange a b c d = is-unique
+    (is-add (is-add (is a) (is b)) (is-add (is c) (is d)))
+    (is-add (is-add (is a) (is c)) (is-add (is b) (is d))) (omega arith)
 
 pub ≡ℤ-is-zero : {x y : ℤ} → (x ≡ y) ↔ (x -ℤ y ≡ pos 0)
 ≡ℤ-is-zero {x} {y} = (

@@ -35,7 +35,8 @@ natAbs-square (negsuc n) = refl
 pub natAbs-*-≤ : (a b : ℤ) {m n : ℕ} → natAbs a ≤ m → natAbs b ≤ n → natAbs (a *ℤ b) ≤ m * n
 natAbs-*-≤ a b h k = rw (natAbs-* a b) (mul-le-mul h k)
 
--- ---- in the bits of a signed number: z as the code computes it, x as the specification has it. (`toZ-pos` of `mir.Facts` reads a small natural as signed.)
+-- ---- in the bits of a signed number: z as the code computes it, x as the specification has it. (`toZ-pos` of `mir.Facts` reads a
+-- small natural as signed.)
 
 mag-≤ : (z : ℤ) → mag z ≤ natAbs z
 mag-≤ (pos n) = omega arith

@@ -3,9 +3,9 @@
 --     ring (a ∷ b ∷ []) (λ x y. (x ⊞ y) ⊠ (x ⊟ y) ≐ x ⊠ x ⊟ y ⊠ y) tt : (a +ℤ b) *ℤ (a -ℤ b) ≡ a *ℤ a -ℤ b *ℤ b
 --
 -- An expression is made of the unknowns by ⊞ (sum), ⊟ (difference), ⊠ (product), ⊖ (negation) and `num k` (the whole number `pos k`).
--- The unknowns are any terms; a compound one stands in parentheses, since `∷` binds tightly. `tt` is refused where the two sides differ as polynomials.
--- A side becomes a polynomial in Horner's form, one unknown inside another; what is compared with 0 is their difference, so that no order of
--- monomials is needed.
+-- The unknowns are any terms; a compound one stands in parentheses, since `∷` binds tightly. `tt` is refused where the two sides differ
+-- as polynomials. A side becomes a polynomial in Horner's form, one unknown inside another; what is compared with 0 is their difference,
+-- so that no order of monomials is needed.
 use mathlib.Core.Path.{_≡_, refl, sym, _∙_, ap, ap₂}
 use mathlib.Core.Bool.{Bool, _&&_}
 use mathlib.Core.List.{List, [], _∷_}
@@ -100,7 +100,9 @@ vanishes (hor c p) = vanishes c && vanishes p
 value-plus-con : (k : ℤ) (p : Polynomial) (ρ : List ℤ) → value (plus-con k p) ρ ≡ k +ℤ value p ρ
 value-plus-con k (con j) ρ = refl
 value-plus-con k (hor c p) [] = value-plus-con k c []
-value-plus-con k (hor c p) (x ∷ ρ) = ap (λ t. t +ℤ x *ℤ value p (x ∷ ρ)) (value-plus-con k c ρ) ∙ +ℤ-assoc k (value c ρ) (x *ℤ value p (x ∷ ρ))
+value-plus-con k (hor c p) (x ∷ ρ) =
+    let rest : ℤ = x *ℤ value p (x ∷ ρ) in
+    ap (λ t. t +ℤ rest) (value-plus-con k c ρ) ∙ +ℤ-assoc k (value c ρ) rest
 
 value-plus : (p q : Polynomial) (ρ : List ℤ) → value (plus p q) ρ ≡ value p ρ +ℤ value q ρ
 value-plus (con k) q ρ = value-plus-con k q ρ
@@ -113,12 +115,16 @@ value-plus (hor c p) (hor d q) (x ∷ ρ) =
 
 -- k · c + x · (k · p) = k · (c + x · p)
 step-scale : (k c x p : ℤ) → k *ℤ c +ℤ x *ℤ (k *ℤ p) ≡ k *ℤ (c +ℤ x *ℤ p)
-step-scale k c x p = is-unique (is-add (is-mul (is k) (is c)) (is-mul (is x) (is-mul (is k) (is p)))) (is-mul (is k) (is-add (is c) (is-mul (is x) (is p)))) (omega arith)
+step-scale k c x p = is-unique
+    (is-add (is-mul (is k) (is c)) (is-mul (is x) (is-mul (is k) (is p))))
+    (is-mul (is k) (is-add (is c) (is-mul (is x) (is p)))) (omega arith)
 
 value-scale : (k : ℤ) (p : Polynomial) (ρ : List ℤ) → value (scale k p) ρ ≡ k *ℤ value p ρ
 value-scale k (con j) ρ = refl
 value-scale k (hor c p) [] = value-scale k c []
-value-scale k (hor c p) (x ∷ ρ) = ap₂ (λ s t. s +ℤ x *ℤ t) (value-scale k c ρ) (value-scale k p (x ∷ ρ)) ∙ step-scale k (value c ρ) x (value p (x ∷ ρ))
+value-scale k (hor c p) (x ∷ ρ) =
+    ap₂ (λ s t. s +ℤ x *ℤ t) (value-scale k c ρ) (value-scale k p (x ∷ ρ))
+    ∙ step-scale k (value c ρ) x (value p (x ∷ ρ))
 
 -- what `spread` is of, where f multiplies by c: a product by c, which is over the unknowns after the first
 module _ (f : Polynomial → Polynomial) (c : Polynomial) (by : (q : Polynomial) (ρ : List ℤ) → value (f q) ρ ≡ value c ρ *ℤ value q ρ) where
@@ -128,11 +134,15 @@ module _ (f : Polynomial → Polynomial) (c : Polynomial) (by : (q : Polynomial)
 
   value-spread : (q : Polynomial) (x : ℤ) (ρ : List ℤ) → value (spread f q) (x ∷ ρ) ≡ value c ρ *ℤ value q (x ∷ ρ)
   value-spread (con k) x ρ = ap₂ _+ℤ_ (by (con k) ρ) (*ℤ-zero x) ∙ +ℤ-idr (value c ρ *ℤ k)
-  value-spread (hor d r) x ρ = ap₂ (λ s t. s +ℤ x *ℤ t) (by d ρ) (value-spread r x ρ) ∙ step-scale (value c ρ) (value d ρ) x (value r (x ∷ ρ))
+  value-spread (hor d r) x ρ =
+      ap₂ (λ s t. s +ℤ x *ℤ t) (by d ρ) (value-spread r x ρ)
+      ∙ step-scale (value c ρ) (value d ρ) x (value r (x ∷ ρ))
 
 -- c · q + (0 + x · (p · q)) = (c + x · p) · q
 step-times : (c q x p : ℤ) → c *ℤ q +ℤ (pos 0 +ℤ x *ℤ (p *ℤ q)) ≡ (c +ℤ x *ℤ p) *ℤ q
-step-times c q x p = is-unique (is-add (is-mul (is c) (is q)) (is-add (is (pos 0)) (is-mul (is x) (is-mul (is p) (is q))))) (is-mul (is-add (is c) (is-mul (is x) (is p))) (is q)) (omega arith)
+step-times c q x p = is-unique
+    (is-add (is-mul (is c) (is q)) (is-add (is (pos 0)) (is-mul (is x) (is-mul (is p) (is q)))))
+    (is-mul (is-add (is c) (is-mul (is x) (is p))) (is q)) (omega arith)
 
 value-times : (p q : Polynomial) (ρ : List ℤ) → value (times p q) ρ ≡ value p ρ *ℤ value q ρ
 value-times (con k) q ρ = value-scale k q ρ
@@ -158,7 +168,9 @@ value-flat : (e : Expression) (ρ : List ℤ) → value (flat e) ρ ≡ eval e �
 value-flat (var i) ρ = value-unit i ρ
 value-flat (num k) ρ = refl
 value-flat (a ⊞ b) ρ = value-plus (flat a) (flat b) ρ ∙ ap₂ _+ℤ_ (value-flat a ρ) (value-flat b ρ)
-value-flat (a ⊟ b) ρ = value-plus (flat a) (scale (negsuc 0) (flat b)) ρ ∙ ap₂ _+ℤ_ (value-flat a ρ) (value-minus (flat b) ρ ∙ ap negℤ (value-flat b ρ))
+value-flat (a ⊟ b) ρ =
+    value-plus (flat a) (scale (negsuc 0) (flat b)) ρ
+    ∙ ap₂ _+ℤ_ (value-flat a ρ) (value-minus (flat b) ρ ∙ ap negℤ (value-flat b ρ))
 value-flat (a ⊠ b) ρ = value-times (flat a) (flat b) ρ ∙ ap₂ _*ℤ_ (value-flat a ρ) (value-flat b ρ)
 value-flat (⊖ a) ρ = value-minus (flat a) ρ ∙ ap negℤ (value-flat a ρ)
 
@@ -167,7 +179,8 @@ value-vanishes (con (pos n)) t ρ = ap pos (eqb→eq n 0 t)
 value-vanishes (con (negsuc n)) t ρ = absurd (omega (arith, eqb→eq (suc n) 0 t))
 value-vanishes (hor c p) t [] = value-vanishes c (and-yes (vanishes c) (vanishes p) t .0) []
 value-vanishes (hor c p) t (x ∷ ρ) =
-    ap₂ (λ s u. s +ℤ x *ℤ u) (value-vanishes c (and-yes (vanishes c) (vanishes p) t .0) ρ) (value-vanishes p (and-yes (vanishes c) (vanishes p) t .1) (x ∷ ρ))
+    let both = and-yes (vanishes c) (vanishes p) t in
+    ap₂ (λ s u. s +ℤ x *ℤ u) (value-vanishes c (both .0) ρ) (value-vanishes p (both .1) (x ∷ ρ))
     ∙ +ℤ-idl (x *ℤ pos 0) ∙ *ℤ-zero x
 
 -- ---- the solver

@@ -55,7 +55,10 @@ sum-scale-right (suc n) c f = ap (λ s. s +ℤ f n *ℤ c) (sum-scale-right n c 
 pub sum-const : (n : ℕ) (c : ℤ) → sum n (λ k. c) ≡ pos n *ℤ c
 unfolding sum
 sum-const zero c = sym (zero-*ℤ c)
-sum-const (suc n) c = ap (λ s. s +ℤ c) (sum-const n c) ∙ ring (pos n ∷ c ∷ []) (λ n c. n ⊠ c ⊞ c ≐ (n ⊞ num 1) ⊠ c) tt ∙ ap (λ k. pos k *ℤ c) (add-one n)
+sum-const (suc n) c =
+    ap (λ s. s +ℤ c) (sum-const n c)
+    ∙ ring (pos n ∷ c ∷ []) (λ n c. n ⊠ c ⊞ c ≐ (n ⊞ num 1) ⊠ c) tt
+    ∙ ap (λ k. pos k *ℤ c) (add-one n)
 
 pub sum-zeros : (n : ℕ) {f : ℕ → ℤ} → ((k : ℕ) → k < n → f k ≡ pos 0) → sum n f ≡ pos 0
 sum-zeros n h = sum-cong n h ∙ sum-const n (pos 0) ∙ *ℤ-zero (pos n)

@@ -1,11 +1,12 @@
--- Finite sums over parts of a range: split, reversed, one term, and what a test picks out. Where the test is not passed, `only` makes a term 0.
+-- Finite sums over parts of a range: split, reversed, one term, and what a test picks out. Where the test is not passed, `only` makes
+-- a term 0.
 use mathlib.Core.Path.{_≡_, refl, sym, _∙_, ap, ap₂}
 use mathlib.Core.Logic.{_≢_, ⊎-elim}
 use mathlib.Core.Bool.{Bool, true, false, not, cond}
 use Prim.Native.Nat.{ℕ, zero, suc, _+_, _-_, _≤_, _<_}
 use native.Mathlib.Nat.{le-of-suc-le-suc, eq-or-lt-of-le, add-zero, add-suc}
 use native.Mathlib.Omega.{arith}
-use lib.Dec.{T, leb, ltb, le→leb, lt→ltb}
+use lib.Dec.{T, leb, ltb, eqb, le→leb, lt→ltb, eqb→eq, eqb-refl, not-T}
 use lib.Arith.{lt→nleb, le→nltb}
 use lib.IntN.{ℤ, pos, _+ℤ_, +ℤ-assoc, +ℤ-comm, +ℤ-idl, +ℤ-idr}
 use Rattle.integers.specs.Sum.{sum, sum-cong, sum-zeros}
@@ -20,6 +21,13 @@ only-yes false z t = absurd t
 pub only-no : (b : Bool) (z : ℤ) → T (not b) → only b z ≡ pos 0
 only-no true z t = absurd t
 only-no false z t = refl
+
+-- the test of two indices
+pub only-same : (k : ℕ) (z : ℤ) → only (eqb k k) z ≡ z
+only-same k z = only-yes (eqb k k) z (eqb-refl k)
+
+pub only-apart : (k l : ℕ) (z : ℤ) → k ≢ l → only (eqb k l) z ≡ pos 0
+only-apart k l z apart = only-no (eqb k l) z (not-T (eqb k l) (λ t. apart (eqb→eq k l t)))
 
 -- ---- a range in two parts
 

@@ -1,5 +1,5 @@
--- Laws of `total`, the finite sum of naturals, and of `sizes`, the sum of the sizes of whole numbers: it bounds the size of their sum, and of each
--- shorter sum.
+-- Laws of `total`, the finite sum of naturals, and of `sizes`, the sum of the sizes of whole numbers: it bounds the size of their sum,
+-- and of each shorter sum.
 use mathlib.Core.Path.{_≡_, refl, sym, _∙_, ap, ap₂, subst}
 use mathlib.Core.Logic.{_≢_}
 use Prim.Native.Nat.{ℕ, zero, suc, _+_, _*_, _-_, _≤_, _<_, zero-le}

@@ -11,8 +11,11 @@ use mir.Facts.{and-yes}
 use lib.Dec.{T, leb, eqb, leb→le, eqb→eq}
 use Rattle.integers.specs.Sum.{total}
 use Rattle.definitions.specs.Words.{within}
-use Rattle.definitions.specs.Layout.{Bytes, lastYear, closeness, parts, cells, rowStart, varianceOf, priorMean, priorVariance, amount, paid, incurred, fileLength, paidAt, varianceAt, priorVarianceAt, priorMeanAt, amountAt}
-use Rattle.definitions.specs.Refusals.{Check, clear, refuses, unless, _then_, fields, check1, check2, check3, check4, check5, check6, check7, check8, check9, check10, fileCheck, goodVariance, goodPriorVariance, goodPart, goodAmount, yearLimit, closenessLimit, amountLimit, partLimit}
+use Rattle.definitions.specs.Layout.{Bytes, lastYear, closeness, parts, cells, rowStart, varianceOf, priorMean, priorVariance}
+use Rattle.definitions.specs.Layout.{amount, paid, incurred, fileLength, paidAt, varianceAt, priorVarianceAt, priorMeanAt, amountAt}
+use Rattle.definitions.specs.Refusals.{Check, clear, refuses, unless, _then_, fields, fileCheck}
+use Rattle.definitions.specs.Refusals.{check1, check2, check3, check4, check5, check6, check7, check8, check9, check10}
+use Rattle.definitions.specs.Refusals.{yearLimit, closenessLimit, amountLimit, partLimit}
 use Rattle.definitions.specs.Machine.{isClear, accepted}
 
 -- ---- clear checks
@@ -52,6 +55,12 @@ within-yes : (lo hi v : ℕ) → T (within lo hi v) → Within lo hi v
 within-yes lo hi v t =
     let both = and-yes (leb lo v) (leb v hi) t in record { from = leb→le lo v (both .0); to = leb→le v hi (both .1) }
 
+within-clear : (lo hi v number place : ℕ) → isClear (unless (within lo hi v) number place) ≡ true → Within lo hi v
+within-clear lo hi v number place h = within-yes lo hi v (unless-clear (within lo hi v) number place h)
+
+equal-clear : (a b number place : ℕ) → isClear (unless (eqb a b) number place) ≡ true → a ≡ b
+equal-clear a b number place h = eqb→eq a b (unless-clear (eqb a b) number place h)
+
 pub record AcceptedFile (f : Bytes) : Type 0 where
   pub years : Within 1 yearLimit (lastYear f)
   pub size : length f ≡ fileLength (lastYear f)
@@ -61,6 +70,11 @@ pub record AcceptedFile (f : Bytes) : Type 0 where
   pub prior-means : (k : ℕ) → k < parts (lastYear f) → natAbs (priorMean f k) ≤ partLimit
   pub amounts : (c : ℕ) → c < 2 * cells (lastYear f) → Within 1 amountLimit (amount f c)
   pub last-amounts : paid f 0 (lastYear f) ≡ incurred f 0 (lastYear f)
+
+-- the checks of one number over n fields
+all-clear : (good : ℕ → Bool) (number : ℕ) (placeOf : ℕ → ℕ) (n : ℕ) → isClear (fields good number placeOf 0 n) ≡ true
+    → (k : ℕ) → k < n → T (good k)
+all-clear good number placeOf n h k below = fields-clear good number placeOf 0 n h k zero-le (omega arith)
 
 pub file-clear : (f : Bytes) → isClear (fileCheck f) ≡ true → AcceptedFile f
 unfolding fileCheck check1 check2 check3 check4 check5 check6 check7 check8 check9 check10
@@ -74,19 +88,17 @@ file-clear f h =
     let c7 = then-clear {a = check7 f} (c6 .second) in
     let c8 = then-clear {a = check8 f} (c7 .second) in
     let c9 = then-clear {a = check9 f} (c8 .second) in
+    let J : ℕ = lastYear f in
     record {
-      years = within-yes 1 yearLimit (lastYear f) (unless-clear (within 1 yearLimit (lastYear f)) 3 5 (c3 .first));
-      size = eqb→eq (length f) (fileLength (lastYear f)) (unless-clear (eqb (length f) (fileLength (lastYear f))) 4 0 (c4 .first));
-      close = within-yes 1 closenessLimit (closeness f) (unless-clear (within 1 closenessLimit (closeness f)) 5 6 (c5 .first));
-      variances = λ k below. within-yes (2 ^ 18) (2 ^ 40) (varianceOf f k)
-          (fields-clear (λ k. goodVariance (varianceOf f k)) 6 varianceAt 0 (parts (lastYear f)) (c6 .first) k zero-le (omega arith));
-      prior-variances = λ k below. within-yes (2 ^ 18) (2 ^ 46) (priorVariance f k)
-          (fields-clear (λ k. goodPriorVariance (priorVariance f k)) 7 (priorVarianceAt (lastYear f)) 0 (parts (lastYear f)) (c7 .first) k zero-le (omega arith));
-      prior-means = λ k below. leb→le (natAbs (priorMean f k)) partLimit
-          (fields-clear (λ k. goodPart (priorMean f k)) 8 (priorMeanAt (lastYear f)) 0 (parts (lastYear f)) (c8 .first) k zero-le (omega arith));
-      amounts = λ c below. within-yes 1 amountLimit (amount f c)
-          (fields-clear (λ c. goodAmount (amount f c)) 9 (amountAt (lastYear f)) 0 (2 * cells (lastYear f)) (c9 .first) c zero-le (omega arith));
-      last-amounts = eqb→eq (paid f 0 (lastYear f)) (incurred f 0 (lastYear f)) (unless-clear (eqb (paid f 0 (lastYear f)) (incurred f 0 (lastYear f))) 10 (paidAt (lastYear f) 0 (lastYear f)) (c9 .second));
+      years = within-clear 1 yearLimit J 3 5 (c3 .first);
+      size = equal-clear (length f) (fileLength J) 4 0 (c4 .first);
+      close = within-clear 1 closenessLimit (closeness f) 5 6 (c5 .first);
+      variances = λ k below. within-yes (2 ^ 18) (2 ^ 40) (varianceOf f k) (all-clear _ 6 varianceAt (parts J) (c6 .first) k below);
+      prior-variances = λ k below.
+          within-yes (2 ^ 18) (2 ^ 46) (priorVariance f k) (all-clear _ 7 (priorVarianceAt J) (parts J) (c7 .first) k below);
+      prior-means = λ k below. leb→le (natAbs (priorMean f k)) partLimit (all-clear _ 8 (priorMeanAt J) (parts J) (c8 .first) k below);
+      amounts = λ c below. within-yes 1 amountLimit (amount f c) (all-clear _ 9 (amountAt J) (2 * cells J) (c9 .first) c below);
+      last-amounts = equal-clear (paid f 0 J) (incurred f 0 J) 10 (paidAt J 0 J) (c9 .second);
     }
 
 pub accepted-file : (f : Bytes) → accepted f ≡ true → AcceptedFile f
@@ -103,7 +115,8 @@ pub cell-below : (J i j : ℕ) → i + j ≤ J → rowStart J i + j < cells J
 cell-below J i j h =
     let d : ℕ = J - (i + j) in
     let whole : J ≡ i + j + d = omega arith in
-    let start : 2 * rowStart J i + i * i ≡ i * (2 * (i + j + d) + 3) = subst (λ n. 2 * rowStart J i + i * i ≡ i * (2 * n + 3)) whole (rowStart-is J i (omega arith)) in
+    let start : 2 * rowStart J i + i * i ≡ i * (2 * (i + j + d) + 3) =
+    subst (λ n. 2 * rowStart J i + i * i ≡ i * (2 * n + 3)) whole (rowStart-is J i (omega arith)) in
     let enough : 2 * (rowStart J i + j + 1) ≤ (J + 1) * (J + 2) =
     subst (λ n. 2 * (rowStart J i + j + 1) ≤ (n + 1) * (n + 2)) (sym whole) (omega arith) in
     omega arith

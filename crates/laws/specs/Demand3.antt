@@ -4,9 +4,9 @@ use mathlib.Core.Path.{_≡_, sym, _∙_, subst}
 use native.Mathlib.Nat.{le-trans}
 use native.Mathlib.Omega.{arith}
 use lib.IntN.{pos, natAbs}
-use Rattle.definitions.specs.Layout.{Bytes, lastYear, closeness, parts}
+use Rattle.definitions.specs.Layout.{Bytes, closeness, parts}
 use Rattle.definitions.specs.Loss.{Vector}
-use Rattle.definitions.specs.Observations.{chainOf}
+use Rattle.definitions.specs.Observations.{Chain, chainOf}
 use Rattle.definitions.specs.Matrix.{own}
 use Rattle.definitions.specs.Guarantee.{Guarantee, Demand3, ZeroResidue}
 use Rattle.laws.specs.Accepted.{AcceptedFile, accepted-file}
@@ -19,18 +19,24 @@ use Rattle.laws.specs.Quadratic.{formResidue}
 use Rattle.laws.specs.Rounding.{rounding-passes}
 
 module _ (f : Bytes) (h : AcceptedFile f) (μ : Vector) where
-  small-form : SmallResidues f μ → (k : ℕ) → k < parts (lastYear f) → natAbs (formResidue (lossForm (chainOf f)) (pos 1) μ k) ≤ closeness f * own (chainOf f) k
-  small-form small k below = subst (λ z. natAbs z ≤ closeness f * own (chainOf f) k) (residue-is-form (chainOf f) 1 μ k below) (small k below)
+  abbrev c : Chain
+  c = chainOf f
 
-  zero-form : (m : ℕ) (u : Vector) → ZeroResidue f m u → (k : ℕ) → k < parts (lastYear f) → formResidue (lossForm (chainOf f)) (pos m) u k ≡ pos 0
-  zero-form m u none k below = sym (residue-is-form (chainOf f) m u k below) ∙ none k below
+  abbrev e : ℕ
+  e = closeness f
+
+  small-form : SmallResidues f μ → (k : ℕ) → k < parts (c .last) → natAbs (formResidue (lossForm c) (pos 1) μ k) ≤ e * own c k
+  small-form small k below = subst (λ z. natAbs z ≤ e * own c k) (residue-is-form c 1 μ k below) (small k below)
+
+  zero-form : (m : ℕ) (u : Vector) → ZeroResidue f m u → (k : ℕ) → k < parts (c .last) → formResidue (lossForm c) (pos m) u k ≡ pos 0
+  zero-form m u none k below = sym (residue-is-form c m u k below) ∙ none k below
 
   pub guaranteed : SmallResidues f μ → Guarantee f μ
   guaranteed small = record {
-    nearly-least = λ m u _. rw (loss-is-form (chainOf f) 1 μ, loss-is-form (chainOf f) m u) (Form.nearly-least (lossForm (chainOf f)) (closeness f) μ (small-form small) m u);
-    near = λ m u _ none. Form.near (lossForm (chainOf f)) (closeness f) μ (small-form small) m u (zero-form m u none);
-    strictly-least = λ none m u _ another. rw (loss-is-form (chainOf f) 1 μ, loss-is-form (chainOf f) m u)
-        (Form.strictly-least (lossForm (chainOf f)) (closeness f) μ (file-owned f h .owned) (zero-form 1 μ none) m u (another .0) (another .1) (another .2));
+    nearly-least = λ m u _. rw (loss-is-form c 1 μ, loss-is-form c m u) (Form.nearly-least (lossForm c) e μ (small-form small) m u);
+    near = λ m u _ none. Form.near (lossForm c) e μ (small-form small) m u (zero-form m u none);
+    strictly-least = λ none m u _ (k, below, differs). rw (loss-is-form c 1 μ, loss-is-form c m u)
+        (Form.strictly-least (lossForm c) e μ (file-owned f h .owned) (zero-form 1 μ none) m u k below differs);
   }
 
 pub demand3 : Demand3
@@ -38,7 +44,7 @@ demand3 = record {
   guarantee = λ f yes μ passed. guaranteed f (accepted-file f yes) μ (small-of-passes f μ passed);
   rounding = λ f yes μ r.
       let h = accepted-file f yes in
-      passes-of-small f μ
-      (rounding-passes (chainOf f) (file-owned f h) (h .years .to) (closeness f) (le-trans (omega arith) (r .room)) (r .m) (r .u) μ
-      (r .some) (r .exact) (r .half));
+      let room : 121 ≤ closeness f = le-trans (omega arith) (r .room) in
+      let small = rounding-passes (chainOf f) (file-owned f h) (h .years .to) (closeness f) room (r .m) (r .u) μ in
+      passes-of-small f μ (small (r .some) (r .exact) (r .half));
 }

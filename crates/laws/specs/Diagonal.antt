@@ -4,33 +4,35 @@ use Prim.Native.Nat.{ℕ, zero, suc, _+_, _*_, _≤_, _<_, min}
 use mathlib.Core.Path.{_≡_, refl, sym, ap, ap₂, _∙_, subst}
 use mathlib.Core.Bool.{Bool, true, false, not}
 use native.Mathlib.Omega.{arith}
-use lib.Dec.{T, eqb, eqb→eq, eqb-refl, not-T}
+use lib.Dec.{T, eqb, eqb→eq, not-T}
 use lib.IntN.{pos, natAbs, _+ℤ_, _*ℤ_, *ℤ-comm}
 use Rattle.integers.specs.Sum.{total}
-use Rattle.integers.specs.SumRange.{only, only-yes}
+use Rattle.integers.specs.SumRange.{only, only-same}
 use Rattle.integers.specs.Total.{pos-total}
 use Rattle.definitions.specs.Layout.{Bytes, lastYear, parts}
-use Rattle.definitions.specs.Refusals.{clear, unless, _then_, fields, fileCheck}
+use Rattle.definitions.specs.Refusals.{Check, clear, unless, _then_, fields, fileCheck}
 use Rattle.definitions.specs.Observations.{Chain, chainOf}
 use Rattle.definitions.specs.Matrix.{Part, Φ, Ψ, partOf, own, matrix, sharedBy}
 use Rattle.definitions.specs.Machine.{isClear, check16}
 use Rattle.laws.specs.Accepted.{file-clear}
 use Rattle.laws.specs.FileBounds.{file-owned}
-use Rattle.laws.specs.Ranks.{rankOf, signOf, rankEntry, matrix-by-ranks, same-test}
+use Rattle.laws.specs.Ranks.{rankOf, signOf, rankEntry, matrix-by-ranks, same-index}
 
 module _ (c : Chain) where
+  entry-symmetric : (a b : Part) → rankEntry c a b ≡ rankEntry c b a
+  entry-symmetric a b = ap₂ _*ℤ_ (*ℤ-comm (signOf a) (signOf b)) (ap (sharedBy c) (either (rankOf a) (rankOf b)))
+    where
+      either : (m n : ℕ) → min m n ≡ min n m
+      either m n = omega arith
+
   pub matrix-symmetric : (k l : ℕ) → k < parts (c .last) → l < parts (c .last) → matrix c k l ≡ matrix c l k
   matrix-symmetric k l k-below l-below =
       matrix-by-ranks c k l k-below l-below
-      ∙ ap₂ _+ℤ_ (on-diagonal (eqb k l) refl)
-      (ap₂ _*ℤ_ (*ℤ-comm (signOf (partOf (c .last) k)) (signOf (partOf (c .last) l))) (ap (sharedBy c) (either (rankOf (partOf (c .last) k)) (rankOf (partOf (c .last) l)))))
+      ∙ ap₂ _+ℤ_ (on-diagonal (eqb k l) refl) (entry-symmetric (partOf (c .last) k) (partOf (c .last) l))
       ∙ sym (matrix-by-ranks c l k l-below k-below)
     where
-      either : (a b : ℕ) → min a b ≡ min b a
-      either a b = omega arith
-
       turned : eqb k l ≡ eqb l k
-      turned = same-test (eqb k l) (eqb l k) (λ t. subst (λ n. T (eqb n k)) (eqb→eq k l t) (eqb-refl k)) (λ t. subst (λ n. T (eqb n l)) (eqb→eq l k t) (eqb-refl l))
+      turned = same-index k l l k sym sym
 
       on-diagonal : (t : Bool) → eqb k l ≡ t → only (eqb k l) (pos (own c k)) ≡ only (eqb l k) (pos (own c l))
       on-diagonal true e = ap₂ only turned (ap (λ n. pos (own c n)) (eqb→eq k l (subst T (sym e) tt)))
@@ -40,13 +42,15 @@ module _ (c : Chain) where
   pub diagonal-is : (k : ℕ) → k < parts (c .last) → matrix c k k ≡ pos (own c k + total (rankOf (partOf (c .last) k)) (c .g))
   diagonal-is k below =
       matrix-by-ranks c k k below below
-      ∙ ap₂ _+ℤ_ (only-yes (eqb k k) (pos (own c k)) (eqb-refl k)) (same-sign (partOf (c .last) k))
+      ∙ ap₂ _+ℤ_ (only-same k (pos (own c k))) (same-sign (partOf (c .last) k))
     where
       same-rank : (n : ℕ) → min n n ≡ n
       same-rank n = omega arith
 
       same-sign : (a : Part) → rankEntry c a a ≡ pos (total (rankOf a) (c .g))
-      same-sign a = ap₂ _*ℤ_ (one a) (ap (sharedBy c) (same-rank (rankOf a)) ∙ sym (pos-total (rankOf a) (c .g))) ∙ ap pos (whole (total (rankOf a) (c .g)))
+      same-sign a =
+          ap₂ _*ℤ_ (one a) (ap (sharedBy c) (same-rank (rankOf a)) ∙ sym (pos-total (rankOf a) (c .g)))
+          ∙ ap pos (whole (total (rankOf a) (c .g)))
         where
           one : (a : Part) → signOf a *ℤ signOf a ≡ pos 1
           one (Φ j) = refl
@@ -57,24 +61,29 @@ module _ (c : Chain) where
 
 -- ---- number 16
 
-fields-all-good : (good : ℕ → Bool) (number : ℕ) (placeOf : ℕ → ℕ) (i n : ℕ) → ((k : ℕ) → i ≤ k → k < i + n → T (good k)) → fields good number placeOf i n ≡ clear
-unfolding fields
-fields-all-good good number placeOf i zero h = refl
-fields-all-good good number placeOf i (suc n) h =
-    passed (good i) (h i (omega arith) (omega arith)) ∙ fields-all-good good number placeOf (suc i) n (λ k from to. h k (omega arith) (omega arith))
-  where
-    passed : (t : Bool) → T t → unless t number (placeOf i) then fields good number placeOf (suc i) n ≡ fields good number placeOf (suc i) n
-    passed true t = refl
-    passed false t = absurd t
+module _ (good : ℕ → Bool) (number : ℕ) (placeOf : ℕ → ℕ) where
+  fields-all-good : (i n : ℕ) → ((k : ℕ) → i ≤ k → k < i + n → T (good k)) → fields good number placeOf i n ≡ clear
+  unfolding fields
+  fields-all-good i zero h = refl
+  fields-all-good i (suc n) h =
+      passed (good i) _ (h i (omega arith) (omega arith)) ∙ fields-all-good (suc i) n (λ k from to. h k (omega arith) (omega arith))
+    where
+      passed : (t : Bool) (rest : Check) → T t → unless t number (placeOf i) then rest ≡ rest
+      passed true rest t = refl
+      passed false rest t = absurd t
 
-pub diagonal-positive : (f : Bytes) → isClear (fileCheck f) ≡ true → (k : ℕ) → k < parts (lastYear f) → 1 ≤ natAbs (matrix (chainOf f) k k)
-diagonal-positive f h k below = rw (diagonal-is (chainOf f) k below) (omega (arith, file-owned f (file-clear f h) .owned k below))
+module _ (f : Bytes) (h : isClear (fileCheck f) ≡ true) where
+  abbrev diagonal : ℕ → ℕ
+  diagonal k = natAbs (matrix (chainOf f) k k)
 
-pub number-16-never : (f : Bytes) → isClear (fileCheck f) ≡ true → check16 f ≡ clear
-unfolding check16
-number-16-never f h =
-    fields-all-good (λ k. not (eqb (natAbs (matrix (chainOf f) k k)) 0)) 16 (λ k. 0) 0 (parts (lastYear f))
-    (λ k _ to. not-T (eqb (natAbs (matrix (chainOf f) k k)) 0) (λ t. none (eqb→eq (natAbs (matrix (chainOf f) k k)) 0 t) (diagonal-positive f h k (omega arith))))
-  where
-    none : {n : ℕ} → n ≡ 0 → 1 ≤ n → ⊥
-    none e some = omega arith
+  pub diagonal-positive : (k : ℕ) → k < parts (lastYear f) → 1 ≤ diagonal k
+  diagonal-positive k below = rw (diagonal-is (chainOf f) k below) (omega (arith, file-owned f (file-clear f h) .owned k below))
+
+  pub number-16-never : check16 f ≡ clear
+  unfolding check16
+  number-16-never =
+      fields-all-good (λ k. not (eqb (diagonal k) 0)) 16 (λ k. 0) 0 (parts (lastYear f))
+      (λ k _ to. not-T (eqb (diagonal k) 0) (λ t. none (eqb→eq (diagonal k) 0 t) (diagonal-positive k (omega arith))))
+    where
+      none : {n : ℕ} → n ≡ 0 → 1 ≤ n → ⊥
+      none e some = omega arith

@@ -27,22 +27,38 @@ module _ (q : Form) (e : ℕ) (μ : Vector) where
   -- −2m·(residues along w) ≤ ΣD·w² + m²e²ΣD
   pub along-bounded : ((k : ℕ) → k < q .parts → natAbs (formResidue q (pos 1) μ k) ≤ e * q .own k) → (m : ℕ) (w : Vector)
       → negℤ (pos 2 *ℤ pos m *ℤ along q μ w) ≤ℤ (ownSquares q w +ℤ formSlack m)
-  along-bounded small m w =
-      ≤ℤ-trans (≤ℤ-of-≡ into) (≤ℤ-trans (sum-mono (q .parts) (λ k below. mixed-neg-≤ m e (q .own k) (formResidue q (pos 1) μ k) (w k) (small k below))) (≤ℤ-of-≡ out))
+  along-bounded small m w = ≤ℤ-trans (≤ℤ-of-≡ into) (≤ℤ-trans (sum-mono (q .parts) bound) (≤ℤ-of-≡ out))
     where
-      into : negℤ (pos 2 *ℤ pos m *ℤ along q μ w) ≡ sum (q .parts) (λ k. negℤ (pos 2 *ℤ pos m *ℤ (formResidue q (pos 1) μ k *ℤ w k)))
-      into = sym (
-          sum-neg (q .parts) (λ k. pos 2 *ℤ pos m *ℤ (formResidue q (pos 1) μ k *ℤ w k))
-          ∙ ap negℤ (sum-scale (q .parts) (pos 2 *ℤ pos m) (λ k. formResidue q (pos 1) μ k *ℤ w k)))
+      n : ℕ
+      n = q .parts
 
-      out : sum (q .parts) (λ k. pos (q .own k) *ℤ (w k *ℤ w k +ℤ pos m *ℤ pos m *ℤ (pos e *ℤ pos e))) ≡ ownSquares q w +ℤ formSlack m
+      D : ℕ → ℤ
+      D k = pos (q .own k)
+
+      r : ℕ → ℤ
+      r k = formResidue q (pos 1) μ k
+
+      -- m²e²
+      t : ℤ
+      t = pos m *ℤ pos m *ℤ (pos e *ℤ pos e)
+
+      bound : (k : ℕ) → k < n → negℤ (pos 2 *ℤ pos m *ℤ (r k *ℤ w k)) ≤ℤ (D k *ℤ (w k *ℤ w k +ℤ t))
+      bound k below = mixed-neg-≤ m e (q .own k) (r k) (w k) (small k below)
+
+      into : negℤ (pos 2 *ℤ pos m *ℤ along q μ w) ≡ sum n (λ k. negℤ (pos 2 *ℤ pos m *ℤ (r k *ℤ w k)))
+      into = sym (sum-neg n (λ k. pos 2 *ℤ pos m *ℤ (r k *ℤ w k)) ∙ ap negℤ (sum-scale n (pos 2 *ℤ pos m) (λ k. r k *ℤ w k)))
+
+      slack : sum n (λ k. D k *ℤ t) ≡ formSlack m
+      slack =
+          sum-scale-right n t D
+          ∙ ap (λ z. z *ℤ t) (sym (pos-total n (q .own)))
+          ∙ ring (pos (total n (q .own)) ∷ pos m ∷ pos e ∷ []) (λ t m e. t ⊠ (m ⊠ m ⊠ (e ⊠ e)) ≐ m ⊠ m ⊠ (e ⊠ e ⊠ t)) tt
+
+      out : sum n (λ k. D k *ℤ (w k *ℤ w k +ℤ t)) ≡ ownSquares q w +ℤ formSlack m
       out =
-          sum-cong (q .parts) (λ k _. ring (pos (q .own k) ∷ (w k *ℤ w k) ∷ (pos m *ℤ pos m *ℤ (pos e *ℤ pos e)) ∷ []) (λ d s t. d ⊠ (s ⊞ t) ≐ d ⊠ s ⊞ d ⊠ t) tt)
-          ∙ sum-+ (q .parts) (λ k. pos (q .own k) *ℤ (w k *ℤ w k)) (λ k. pos (q .own k) *ℤ (pos m *ℤ pos m *ℤ (pos e *ℤ pos e)))
-          ∙ ap (λ z. ownSquares q w +ℤ z)
-          (sum-scale-right (q .parts) (pos m *ℤ pos m *ℤ (pos e *ℤ pos e)) (λ k. pos (q .own k))
-          ∙ ap (λ z. z *ℤ (pos m *ℤ pos m *ℤ (pos e *ℤ pos e))) (sym (pos-total (q .parts) (q .own)))
-          ∙ ring (pos (total (q .parts) (q .own)) ∷ pos m ∷ pos e ∷ []) (λ t m e. t ⊠ (m ⊠ m ⊠ (e ⊠ e)) ≐ m ⊠ m ⊠ (e ⊠ e ⊠ t)) tt)
+          sum-cong n (λ k _. ring (D k ∷ (w k *ℤ w k) ∷ t ∷ []) (λ d s t. d ⊠ (s ⊞ t) ≐ d ⊠ s ⊞ d ⊠ t) tt)
+          ∙ sum-+ n (λ k. D k *ℤ (w k *ℤ w k)) (λ k. D k *ℤ t)
+          ∙ ap (λ z. ownSquares q w +ℤ z) slack
 
   module _ (small : (k : ℕ) → k < q .parts → natAbs (formResidue q (pos 1) μ k) ≤ e * q .own k) where
     pub nearly-least : (m : ℕ) (u : Vector) → (pos (m * m) *ℤ formLoss q (pos 1) μ) ≤ℤ (formLoss q (pos m) u +ℤ formSlack m)
@@ -52,7 +68,8 @@ module _ (q : Form) (e : ℕ) (μ : Vector) where
         let others = combined-nonneg w in
         rw (expansion q (pos m) u μ) (simp linear (omega (zarith, simp linear at bound, simp linear at others)))
 
-    pub near : (m : ℕ) (u : Vector) → ((k : ℕ) → k < q .parts → formResidue q (pos m) u k ≡ pos 0) → ownSquares q (apart q (pos m) u μ) ≤ℤ formSlack m
+    pub near : (m : ℕ) (u : Vector) → ((k : ℕ) → k < q .parts → formResidue q (pos m) u k ≡ pos 0)
+        → ownSquares q (apart q (pos m) u μ) ≤ℤ formSlack m
     near m u none =
         let w : Vector = apart q (pos m) u μ in
         let bound = along-bounded small m w in
@@ -61,7 +78,8 @@ module _ (q : Form) (e : ℕ) (μ : Vector) where
         simp linear (omega (zarith, simp linear at bound, simp linear at others, simp linear at balance))
 
   pub strictly-least : ((k : ℕ) → k < q .parts → 1 ≤ q .own k) → ((k : ℕ) → k < q .parts → formResidue q (pos 1) μ k ≡ pos 0)
-      → (m : ℕ) (u : Vector) (k : ℕ) → k < q .parts → u k ≢ pos m *ℤ μ k → (pos (m * m) *ℤ formLoss q (pos 1) μ) <ℤ formLoss q (pos m) u
+      → (m : ℕ) (u : Vector) (k : ℕ) → k < q .parts → u k ≢ pos m *ℤ μ k
+      → (pos (m * m) *ℤ formLoss q (pos 1) μ) <ℤ formLoss q (pos m) u
   strictly-least owned none m u k below differs =
       let w : Vector = apart q (pos m) u μ in
       let no-residue : along q μ w ≡ pos 0 = sum-zeros (q .parts) (λ l l-below. ap (λ z. z *ℤ w l) (none l l-below) ∙ zero-*ℤ (w l)) in

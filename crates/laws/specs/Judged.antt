@@ -14,8 +14,8 @@ use Rattle.integers.specs.Sum.{sum-cong}
 use Rattle.definitions.specs.Words.{tabFrom, part}
 use Rattle.definitions.specs.Layout.{Bytes, lastYear, closeness, parts}
 use Rattle.definitions.specs.Loss.{Vector}
-use Rattle.definitions.specs.Observations.{chainOf}
-use Rattle.definitions.specs.Matrix.{own, matrix, rightHand, residueTimes, Figures, figuresOf, residue, partPasses, judgeFrom, fails, isPassed, passes}
+use Rattle.definitions.specs.Observations.{Chain, chainOf}
+use Rattle.definitions.specs.Matrix.{own, matrix, rightHand, residueTimes, Figures, figuresOf, entry, residue, partPasses, judgeFrom, fails, isPassed, passes}
 
 -- ---- a tabulated list
 
@@ -44,8 +44,10 @@ module _ (F : Figures) (u : Vector) where
   judged-passes k zero h l from to = absurd (omega arith)
   judged-passes k (suc n) h l from to = by-test (partPasses F u k) refl h (λ rest. judged-passes (suc k) n rest l) (eq-or-lt-of-le from)
     where
-      by-test : (t : Bool) → partPasses F u k ≡ t → isPassed (cond t (judgeFrom F u (suc k) n) (fails k)) ≡ true
-          → (isPassed (judgeFrom F u (suc k) n) ≡ true → suc k ≤ l → l < suc k + n → T (partPasses F u l)) → (k ≡ l) ⊎ (k < l) → T (partPasses F u l)
+      by-test : (t : Bool) → partPasses F u k ≡ t
+          → isPassed (cond t (judgeFrom F u (suc k) n) (fails k)) ≡ true
+          → (isPassed (judgeFrom F u (suc k) n) ≡ true → suc k ≤ l → l < suc k + n → T (partPasses F u l))
+          → (k ≡ l) ⊎ (k < l) → T (partPasses F u l)
       by-test false e h later side = absurd (false≢true h)
       by-test true e h later (inl same) = subst (λ i. T (partPasses F u i)) same (subst T (sym e) tt)
       by-test true e h later (inr past) = later h past (omega arith)
@@ -53,7 +55,9 @@ module _ (F : Figures) (u : Vector) where
   pub passes-judged : (k n : ℕ) → ((l : ℕ) → k ≤ l → l < k + n → T (partPasses F u l)) → isPassed (judgeFrom F u k n) ≡ true
   unfolding judgeFrom
   passes-judged k zero h = refl
-  passes-judged k (suc n) h = by-test (partPasses F u k) (h k (omega arith) (omega arith)) (passes-judged (suc k) n (λ l from to. h l (omega arith) (omega arith)))
+  passes-judged k (suc n) h =
+      let rest = passes-judged (suc k) n (λ l from to. h l (omega arith) (omega arith)) in
+      by-test (partPasses F u k) (h k (omega arith) (omega arith)) rest
     where
       by-test : (t : Bool) → T t → isPassed (judgeFrom F u (suc k) n) ≡ true → isPassed (cond t (judgeFrom F u (suc k) n) (fails k)) ≡ true
       by-test true t rest = rest
@@ -61,34 +65,48 @@ module _ (F : Figures) (u : Vector) where
 
 -- ---- the same over a file's own weights and matrix
 
-module _ (f : Bytes) (u : Vector) where
-  pub residue-of-file : (k : ℕ) → k < parts (lastYear f) → residue (figuresOf f) u k ≡ residueTimes (chainOf f) 1 u k
-  unfolding residue residueTimes figuresOf
-  residue-of-file k below =
-      ap₂ _-ℤ_
-      (sum-cong (parts (lastYear f)) (λ l l-below. ap (λ z. z *ℤ u l)
-      (ap (λ row. part row l) (tab-at (parts (lastYear f)) (λ i. tabFrom 0 (parts (lastYear f)) (matrix (chainOf f) i)) k [] below)
-      ∙ tab-at (parts (lastYear f)) (matrix (chainOf f) k) l (pos 0) l-below)))
-      (tab-at (parts (lastYear f)) (rightHand (chainOf f)) k (pos 0) below ∙ sym (*ℤ-idl (rightHand (chainOf f) k)))
+module _ (f : Bytes) where
+  abbrev n : ℕ
+  n = parts (lastYear f)
 
-  abbrev pub SmallResidues : Type 0
-  SmallResidues = (k : ℕ) → k < parts (lastYear f) → natAbs (residueTimes (chainOf f) 1 u k) ≤ closeness f * own (chainOf f) k
+  abbrev c : Chain
+  c = chainOf f
 
-  test-of-file : (k : ℕ) → k < parts (lastYear f)
-      → partPasses (figuresOf f) u k ≡ leb (natAbs (residueTimes (chainOf f) 1 u k)) (closeness f * own (chainOf f) k)
+  abbrev e : ℕ
+  e = closeness f
+
+  abbrev F : Figures
+  F = figuresOf f
+
+  pub entry-of-file : (k l : ℕ) → k < n → l < n → entry F k l ≡ matrix c k l
   unfolding figuresOf
-  test-of-file k below =
-      ap₂ (λ r D. leb (natAbs r) (closeness f * D)) (residue-of-file k below) (tab-at (parts (lastYear f)) (own (chainOf f)) k 0 below)
+  entry-of-file k l k-below l-below =
+      ap (λ row. part row l) (tab-at n (λ i. tabFrom 0 n (matrix c i)) k [] k-below) ∙ tab-at n (matrix c k) l (pos 0) l-below
 
-  pub small-of-passes : passes (figuresOf f) u ≡ true → SmallResidues
-  unfolding figuresOf
-  small-of-passes h k below =
-      leb→le (natAbs (residueTimes (chainOf f) 1 u k)) (closeness f * own (chainOf f) k)
-      (subst T (test-of-file k below) (judged-passes (figuresOf f) u 0 (parts (lastYear f)) h k zero-le (omega arith)))
+  module _ (u : Vector) where
+    pub residue-of-file : (k : ℕ) → k < n → residue F u k ≡ residueTimes c 1 u k
+    unfolding residue residueTimes figuresOf
+    residue-of-file k below =
+        ap₂ _-ℤ_
+        (sum-cong n (λ l l-below. ap (λ z. z *ℤ u l) (entry-of-file k l below l-below)))
+        (tab-at n (rightHand c) k (pos 0) below ∙ sym (*ℤ-idl (rightHand c k)))
 
-  pub passes-of-small : SmallResidues → passes (figuresOf f) u ≡ true
-  unfolding figuresOf
-  passes-of-small small =
-      passes-judged (figuresOf f) u 0 (parts (lastYear f)) (λ k _ to.
-      let below : k < parts (lastYear f) = omega arith in
-      subst T (sym (test-of-file k below)) (le→leb (natAbs (residueTimes (chainOf f) 1 u k)) (closeness f * own (chainOf f) k) (small k below)))
+    abbrev pub SmallResidues : Type 0
+    SmallResidues = (k : ℕ) → k < n → natAbs (residueTimes c 1 u k) ≤ e * own c k
+
+    test-of-file : (k : ℕ) → k < n → partPasses F u k ≡ leb (natAbs (residueTimes c 1 u k)) (e * own c k)
+    unfolding figuresOf
+    test-of-file k below = ap₂ (λ r D. leb (natAbs r) (e * D)) (residue-of-file k below) (tab-at n (own c) k 0 below)
+
+    pub small-of-passes : passes F u ≡ true → SmallResidues
+    unfolding figuresOf
+    small-of-passes h k below =
+        leb→le (natAbs (residueTimes c 1 u k)) (e * own c k)
+        (subst T (test-of-file k below) (judged-passes F u 0 n h k zero-le (omega arith)))
+
+    pub passes-of-small : SmallResidues → passes F u ≡ true
+    unfolding figuresOf
+    passes-of-small small =
+        passes-judged F u 0 n (λ k _ to.
+        let below : k < n = omega arith in
+        subst T (sym (test-of-file k below)) (le→leb (natAbs (residueTimes c 1 u k)) (e * own c k) (small k below)))

@@ -21,7 +21,8 @@
 --   FileLimits        the sizes of an accepted file's figures, as numbers
 --   StepLaws          one step of a sweep: one part changes, stays inside, residues follow
 --   SweepLaws         no step and no sweep raises the loss; a swept mean stays inside the limits
---   MachineLaws       the machine runs on a file's figures; every state that calls reach is empty or an accepted file, a mean inside, a total ≤ 4,096
+--   MachineLaws       the machine runs on a file's figures; every state that calls reach is empty, or an accepted file with a mean
+--                     inside the limits and a total ≤ 4,096
 --   Numbers           a refusal has a number of at least 1
 pub mod LogarithmBits
 pub mod LogarithmBound

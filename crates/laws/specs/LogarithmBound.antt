@@ -5,7 +5,9 @@
 use Prim.Native.Nat.{ℕ, zero, suc, _+_, _*_, _-_, _/_, _^_, _≤_, _<_}
 use mathlib.Core.Path.{_≡_, refl, sym, ap, _∙_, subst}
 use mathlib.Core.Bool.{Bool, true, false, not, cond}
-use native.Mathlib.Nat.{mul-zero, mul-suc, le-trans, le-of-eq, pow-le-pow-left, mul-le-mul, mul-le-mul-left, mul-le-mul-right, div-mul-le-self, lt-div-mul-add, le-div-iff-mul-le, div-lt-iff-lt-mul, pow-zero, pow-suc, le-of-mul-le-mul-left, lt-of-mul-lt-mul-left, one-le-pow, two-pow-succ}
+use native.Mathlib.Nat.{mul-zero, mul-suc, le-trans, le-of-eq, mul-le-mul, mul-le-mul-left, mul-le-mul-right}
+use native.Mathlib.Nat.{le-of-mul-le-mul-left, lt-of-mul-lt-mul-left, div-mul-le-self, lt-div-mul-add, le-div-iff-mul-le, div-lt-iff-lt-mul}
+use native.Mathlib.Nat.{pow-zero, pow-suc, pow-le-pow-left, one-le-pow, two-pow-succ}
 use native.Mathlib.Omega.{arith, by-contra}
 use lib.Dec.{T, leb, leb→le, nleb→lt, lit<}
 use lib.Pow.{pow-add, pow-pos, pow-mono, pow-lt}
@@ -29,7 +31,8 @@ module _ (n p L y z B P Q : ℕ) where
   square-low pos h d =
       le-of-mul-le-mul-left {k = n} (omega (arith, mul-le-mul h h, mul-le-mul-left (L * L) d)) pos
 
-  square-high : n ≤ z → y * y < z * (n * B) + n * B → 0 < n → p * n * P ≤ L * y * Q → p * p * n * (P * P * n) ≤ L * L * B * z * (Q * Q * (n + 1))
+  square-high : n ≤ z → y * y < z * (n * B) + n * B → 0 < n → p * n * P ≤ L * y * Q
+      → p * p * n * (P * P * n) ≤ L * L * B * z * (Q * Q * (n + 1))
   square-high from d pos h =
       let rounded : y * y ≤ B * ((n + 1) * z) =
       le-of-mul-le-mul-left {k = n} (omega (arith, mul-le-mul-left n d, mul-le-mul-left (n * B) from)) pos in
@@ -69,7 +72,8 @@ ends-high {p} {l} {y} {c} b few =
 -- ---- one squaring by the definition
 
 -- the two cases of a squaring share their proof, with the bit as a parameter
-squared : {p l y c : ℕ} (bit z : ℕ) → Bracket p l y c → N ≤ z → z < 2 * N → z * (N * 2 ^ bit) ≤ y * y → y * y < z * (N * 2 ^ bit) + N * 2 ^ bit
+squared : {p l y c : ℕ} (bit z : ℕ) → Bracket p l y c → N ≤ z → z < 2 * N
+    → z * (N * 2 ^ bit) ≤ y * y → y * y < z * (N * 2 ^ bit) + N * 2 ^ bit
     → Bracket (p * p) (2 * l + bit) z (2 * c + 1)
 squared {p} {l} {y} {c} bit z b from below low high = record {
   low = rw (exponent l bit) (square-low N p (2 ^ l) y z (2 ^ bit) (N ^ c) ((N + 1) ^ c) (pow-pos 31) (b .low) low);
@@ -130,7 +134,9 @@ record Squared (k p l y c : ℕ) : Type 0 where
 
 all-squarings : (k : ℕ) {p l y c : ℕ} → Bracket p l y c → Squared k p l y c
 unfolding bitsOf roundings
-all-squarings zero {p} {l} {y} {c} b = record { rest = y; bracket = subst (λ q. Bracket q l y c) (sym (pow-suc p 0 ∙ rw (pow-zero p) (omega arith))) b }
+all-squarings zero {p} {l} {y} {c} b =
+    let one : p ≡ p ^ (2 ^ 0) = sym (pow-suc p 0 ∙ rw (pow-zero p) (omega arith)) in
+    record { rest = y; bracket = subst (λ q. Bracket q l y c) one b }
 all-squarings (suc k) {p} {l} {y} {c} b =
     let after = all-squarings k (one-squaring b) in record {
       rest = after .rest;
@@ -140,7 +146,7 @@ all-squarings (suc k) {p} {l} {y} {c} b =
           (after .bracket);
     }
 
--- ---- the start: h is the place of the highest one bit
+-- ---- the start: h bits stand behind the first one
 
 module _ (a h : ℕ) (from : 2 ^ h ≤ a) (to : a < 2 ^ suc h) where
   -- shifted up, with nothing lost
@@ -209,7 +215,8 @@ logIn-bound k a few one small =
 pub logIn-at-most : (k a b : ℕ) → k ≤ 28 → 1 ≤ a → a ≤ 2 ^ b → b < 64 → logIn k a ≤ b * 2 ^ k
 logIn-at-most k a b few one small short =
     let bound = logIn-bound k a few one (omega (arith, pow-lt short)) in
-    pow-reflects (logIn k a) (b * 2 ^ k) (le-trans (bound .at-least) (le-trans (pow-le-pow-left small (2 ^ k)) (le-of-eq (power-of-power b (2 ^ k)))))
+    let power : a ^ (2 ^ k) ≤ 2 ^ (b * 2 ^ k) = le-trans (pow-le-pow-left small (2 ^ k)) (le-of-eq (power-of-power b (2 ^ k))) in
+    pow-reflects (logIn k a) (b * 2 ^ k) (le-trans (bound .at-least) power)
   where
     pow-reflects : (i j : ℕ) → 2 ^ i ≤ 2 ^ j → i ≤ j
     pow-reflects i j h = by-contra i j (λ less. omega (arith, pow-lt less))

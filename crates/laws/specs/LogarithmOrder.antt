@@ -26,7 +26,9 @@ squaring-keeps l y m z (inr (same, most)) =
     squares = mul-le-mul most most
 
     by-bits : (s t : Bool) → (T s → 2 ^ 63 ≤ y * y) → (T (not t) → z * z < 2 ^ 63)
-        → Behind (2 * l + cond s 1 0) (cond s (y * y / 2 ^ 32) (y * y / 2 ^ 31)) (2 * m + cond t 1 0) (cond t (z * z / 2 ^ 32) (z * z / 2 ^ 31))
+        → Behind
+        (2 * l + cond s 1 0) (cond s (y * y / 2 ^ 32) (y * y / 2 ^ 31))
+        (2 * m + cond t 1 0) (cond t (z * z / 2 ^ 32) (z * z / 2 ^ 31))
     by-bits true true at below = inr (ap (λ n. 2 * n + 1) same, shr-mono 32 squares)
     by-bits true false at below = absurd (clash (at tt) (below tt))
       where

@@ -1,7 +1,7 @@
--- The session machine of document 01: it runs on a file's figures alone, and every state that a list of calls reaches from the empty one is empty, or an
--- accepted file with a mean inside the limits and a total of at most 4,096.
+-- The session machine of document 01: it runs on a file's figures alone, and every state that a list of calls reaches from the empty
+-- one is empty, or an accepted file with a mean inside the limits and a total of at most 4,096.
 use Prim.Native.Nat.{ℕ, zero, suc, _≤_, _<_, zero-le}
-use mathlib.Core.Path.{_≡_, refl, sym, ap, ap₂, subst, _∙_}
+use mathlib.Core.Path.{_≡_, refl, sym, ap, ap₂, _∙_}
 use mathlib.Core.Bool.{Bool, true, false, not, cond, _||_}
 use mathlib.Core.List.{List, [], _∷_, map}
 use native.Mathlib.Decide.{decLt}
@@ -14,7 +14,9 @@ use Rattle.definitions.specs.Layout.{Bytes, lastYear, parts, priorMean, recordL
 use Rattle.definitions.specs.Refusals.{Check, clear, refuses, partLimit}
 use Rattle.definitions.specs.Matrix.{Figures, figuresOf, passes}
 use Rattle.definitions.specs.Sweep.{sweeps, sweepLimit, oneSweep}
-use Rattle.definitions.specs.Machine.{Call, open-file, judge, sweep, read, row, row-told, close, State, empty, holds, Outcome, openCheck, isClear, accepted, openUnless, openCall, judgeCall, sweepCall, readCall, outcome, outcomes, machine, figuresMachine}
+use Rattle.definitions.specs.Machine.{Call, open-file, judge, sweep, read, row, row-told, close}
+use Rattle.definitions.specs.Machine.{State, empty, holds, Outcome, openCheck, isClear, accepted, openUnless}
+use Rattle.definitions.specs.Machine.{openCall, judgeCall, sweepCall, readCall, outcome, outcomes, machine, figuresMachine}
 use Rattle.laws.specs.Accepted.{accepted-file, AcceptedFile}
 use Rattle.laws.specs.Judged.{tab-at, tabFrom-length}
 use Rattle.laws.specs.SweepLaws.{MeanOf, sweeps-came}
@@ -33,10 +35,13 @@ held-cond : (t : Bool) (a b : Outcome Bytes) → heldOutcome (cond t a b) ≡ co
 held-cond true a b = refl
 held-cond false a b = refl
 
-held-cond₂ : (s t : Bool) (a b c : Outcome Bytes) → heldOutcome (cond s a (cond t b c)) ≡ cond s (heldOutcome a) (cond t (heldOutcome b) (heldOutcome c))
+held-cond₂ : (s t : Bool) (a b c : Outcome Bytes)
+    → heldOutcome (cond s a (cond t b c)) ≡ cond s (heldOutcome a) (cond t (heldOutcome b) (heldOutcome c))
 held-cond₂ s t a b c = held-cond s a (cond t b c) ∙ ap (cond s (heldOutcome a)) (held-cond t b c)
 
-held-cond₃ : (r s t : Bool) (a b c d : Outcome Bytes) → heldOutcome (cond r a (cond s b (cond t c d))) ≡ cond r (heldOutcome a) (cond s (heldOutcome b) (cond t (heldOutcome c) (heldOutcome d)))
+held-cond₃ : (r s t : Bool) (a b c d : Outcome Bytes)
+    → heldOutcome (cond r a (cond s b (cond t c d)))
+    ≡ cond r (heldOutcome a) (cond s (heldOutcome b) (cond t (heldOutcome c) (heldOutcome d)))
 held-cond₃ r s t a b c d = held-cond r a (cond s b (cond t c d)) ∙ ap (cond r (heldOutcome a)) (held-cond₂ s t b c d)
 
 held-open : (c : Check) (f : Bytes) → openUnless Figures figuresOf (λ F. F) c f ≡ heldOutcome (openUnless Bytes (λ s. s) figuresOf c f)
@@ -50,9 +55,11 @@ machine-on-figures (holds f μ total) (open-file g) = refl
 machine-on-figures empty (judge r) = refl
 machine-on-figures (holds f μ total) (judge r) = refl
 machine-on-figures empty (sweep n) = refl
-machine-on-figures (holds f μ total) (sweep n) = sym (held-cond₃ (not (within 1 sweepLimit n)) (passes (figuresOf f) (part μ)) (leb sweepLimit total) _ _ _ _)
+machine-on-figures (holds f μ total) (sweep n) =
+    sym (held-cond₃ (not (within 1 sweepLimit n)) (passes (figuresOf f) (part μ)) (leb sweepLimit total) _ _ _ _)
 machine-on-figures empty (read b) = refl
-machine-on-figures (holds f μ total) (read b) = sym (held-cond₂ (not (passes (figuresOf f) (part μ))) (ltb (length b) (recordLength (figuresOf f .last))) _ _ _)
+machine-on-figures (holds f μ total) (read b) =
+    sym (held-cond₂ (not (passes (figuresOf f) (part μ))) (ltb (length b) (recordLength (figuresOf f .last))) _ _ _)
 machine-on-figures empty (row f channel year) = refl
 machine-on-figures (holds g μ total) (row f channel year) = refl
 machine-on-figures empty (row-told f channel year) = refl
@@ -67,23 +74,30 @@ Good empty = Unit {0}
 Good (holds f μ total) = (accepted f ≡ true) × MeanOf f μ × (total ≤ sweepLimit)
 
 pub priors-mean : (f : Bytes) → AcceptedFile f → MeanOf f (tabFrom 0 (parts (lastYear f)) (priorMean f))
-priors-mean f h = record { whole = tabFrom-length 0 (parts (lastYear f)) (priorMean f); inside = λ l. by-index (decLt l (parts (lastYear f))) }
+priors-mean f h = record { whole = tabFrom-length 0 n (priorMean f); inside = λ l. by-index (decLt l n) }
   where
-    behind : {l : ℕ} → ¬ (l < parts (lastYear f)) → parts (lastYear f) ≤ l
-    behind no-part = omega arith
+    n : ℕ
+    n = parts (lastYear f)
 
-    by-index : {l : ℕ} → Dec (l < parts (lastYear f)) → natAbs (part (tabFrom 0 (parts (lastYear f)) (priorMean f)) l) ≤ partLimit
-    by-index {l} (yes below) = rw (tab-at (parts (lastYear f)) (priorMean f) l (pos 0) below) (h .prior-means l below)
-    by-index {l} (no above) =
-        rw (List·getD-eq-default (tabFrom 0 (parts (lastYear f)) (priorMean f)) (pos 0) {n = l} (subst (λ n. n ≤ l) (sym (tabFrom-length 0 (parts (lastYear f)) (priorMean f))) (behind above))) zero-le
+    priors : List ℤ
+    priors = tabFrom 0 n (priorMean f)
+
+    behind : {l : ℕ} → ¬ (l < n) → length priors ≤ l
+    behind no-part = rw (tabFrom-length 0 n (priorMean f)) (omega arith)
+
+    by-index : {l : ℕ} → Dec (l < n) → natAbs (part priors l) ≤ partLimit
+    by-index {l} (yes below) = rw (tab-at n (priorMean f) l (pos 0) below) (h .prior-means l below)
+    by-index {l} (no above) = rw (List·getD-eq-default priors (pos 0) {n = l} (behind above)) zero-le
 
 -- no call runs a sweep past the limit
 pub sweeps-total : (F : Figures) (n : ℕ) (μ : List ℤ) (total : ℕ) → total ≤ sweepLimit → sweeps F n μ total .swept ≤ sweepLimit
 unfolding sweeps
 sweeps-total F zero μ total few = few
-sweeps-total F (suc n) μ total few = by-test (passes F (part μ)) (leb sweepLimit total) (nleb→lt sweepLimit total) (λ less. sweeps-total F n (oneSweep F μ) (suc total) less)
+sweeps-total F (suc n) μ total few =
+    by-test (passes F (part μ)) (leb sweepLimit total) (nleb→lt sweepLimit total) (sweeps-total F n (oneSweep F μ) (suc total))
   where
-    by-test : (p t : Bool) → (T (not t) → total < sweepLimit) → (total < sweepLimit → sweeps F n (oneSweep F μ) (suc total) .swept ≤ sweepLimit)
+    by-test : (p t : Bool) → (T (not t) → total < sweepLimit)
+        → (total < sweepLimit → sweeps F n (oneSweep F μ) (suc total) .swept ≤ sweepLimit)
         → cond (p || t) (record { mean = μ; swept = total }) (sweeps F n (oneSweep F μ) (suc total)) .swept ≤ sweepLimit
     by-test true t less further = few
     by-test false true less further = few
@@ -127,9 +141,11 @@ pub reached-good : (calls : List Call) → Good (after empty calls)
 reached-good calls = good-after calls empty tt
 
 -- every list of calls gives the machine on figures the answers and buffers of document 01's machine
-pub outcomes-on-figures : (calls : List Call) (st : State Bytes) → outcomes Figures figuresOf (λ F. F) (heldState st) calls ≡ map heldOutcome (outcomes Bytes (λ f. f) figuresOf st calls)
+pub outcomes-on-figures : (calls : List Call) (st : State Bytes)
+    → outcomes Figures figuresOf (λ F. F) (heldState st) calls ≡ map heldOutcome (outcomes Bytes (λ f. f) figuresOf st calls)
 unfolding outcomes
 outcomes-on-figures [] st = refl
 outcomes-on-figures (call ∷ calls) st =
-    ap₂ _∷_ (machine-on-figures st call)
-    (ap (λ o. outcomes Figures figuresOf (λ F. F) (o .state) calls) (machine-on-figures st call) ∙ outcomes-on-figures calls (machine st call .state))
+    let same = machine-on-figures st call in
+    let later = ap (λ o. outcomes Figures figuresOf (λ F. F) (o .state) calls) same in
+    ap₂ _∷_ same (later ∙ outcomes-on-figures calls (machine st call .state))

@@ -82,9 +82,11 @@ same-test true false f g = absurd (f tt)
 same-test false true f g = absurd (g tt)
 same-test false false f g = refl
 
-same-index : (a b c d : ℕ) → (a ≡ b → c ≡ d) → (c ≡ d → a ≡ b) → eqb a b ≡ eqb c d
-same-index a b c d f g =
-    same-test (eqb a b) (eqb c d) (λ t. subst (λ n. T (eqb c n)) (f (eqb→eq a b t)) (eqb-refl c)) (λ t. subst (λ n. T (eqb a n)) (g (eqb→eq c d t)) (eqb-refl a))
+pub same-index : (a b c d : ℕ) → (a ≡ b → c ≡ d) → (c ≡ d → a ≡ b) → eqb a b ≡ eqb c d
+same-index a b c d f g = same-test (eqb a b) (eqb c d) (λ t. holds (f (eqb→eq a b t))) (λ t. holds (g (eqb→eq c d t)))
+  where
+    holds : {m n : ℕ} → m ≡ n → T (eqb m n)
+    holds {m} e = subst (λ n. T (eqb m n)) e (eqb-refl m)
 
 apart : (a b : ℕ) → (a ≡ b → ⊥) → eqb a b ≡ false
 apart a b f = same-test (eqb a b) false (λ t. f (eqb→eq a b t)) (λ t. absurd t)
@@ -114,7 +116,9 @@ module _ (c : Chain) where
       shifted : (n m : ℕ) → min n m + 1 ≡ min (n + 1) (m + 1)
       shifted n m = omega arith
   entry-by-ranks (Φ n) (Ψ m) = ring (sharedBy c (min n (m + 1)) ∷ []) (λ s. ⊖ s ≐ num 0 ⊞ num 1 ⊠ ⊖ num 1 ⊠ s) tt
-  entry-by-ranks (Ψ m) (Φ n) = ap (λ k. negℤ (sharedBy c k)) (turned n m) ∙ ring (sharedBy c (min (m + 1) n) ∷ []) (λ s. ⊖ s ≐ num 0 ⊞ ⊖ num 1 ⊠ num 1 ⊠ s) tt
+  entry-by-ranks (Ψ m) (Φ n) =
+      ap (λ k. negℤ (sharedBy c k)) (turned n m)
+      ∙ ring (sharedBy c (min (m + 1) n) ∷ []) (λ s. ⊖ s ≐ num 0 ⊞ ⊖ num 1 ⊠ num 1 ⊠ s) tt
     where
       turned : (n m : ℕ) → min n (m + 1) ≡ min (m + 1) n
       turned n m = omega arith

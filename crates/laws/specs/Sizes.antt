@@ -1,15 +1,15 @@
--- The sizes that code in 64 bits needs, over limits of the weights and observations that are left open: own weights at most W, the g at most
--- G, observations at most X in size, a mean's parts at most M.
+-- The sizes that code in 64 bits needs, over limits of the weights and observations that are left open: own weights at most W, the g
+-- at most G, observations at most X in size, a mean's parts at most M.
 use Prim.Native.Nat.{ℕ, zero, suc, _+_, _*_, _-_, _≤_, _<_, min}
 use mathlib.Core.Path.{_≡_, refl, sym, ap, ap₂, _∙_}
 use native.Mathlib.Nat.{le-refl, le-trans, le-of-eq, mul-le-mul-right}
 use native.Mathlib.Omega.{arith}
-use lib.Dec.{eqb, eqb→eq, eqb-refl, not-T}
+use lib.Dec.{eqb}
 use lib.IntN.{ℤ, pos, negsuc, natAbs, _*ℤ_}
 use Rattle.integers.specs.Ring.{*ℤ-idl}
 use Rattle.integers.specs.Size.{natAbs-+, natAbs-*, natAbs-*-≤, natAbs--}
 use Rattle.integers.specs.Sum.{sum, total}
-use Rattle.integers.specs.SumRange.{only, only-yes, only-no, sum-one}
+use Rattle.integers.specs.SumRange.{only, only-same, only-apart, sum-one}
 use Rattle.integers.specs.Total.{total-cong, total-mono, total-bound, total-+, total-scale-right, total-next, total-split, pos-total, sizes, sum-size}
 use Rattle.definitions.specs.Layout.{parts}
 use Rattle.definitions.specs.Loss.{Vector}
@@ -34,15 +34,30 @@ ranks-total : (J : ℕ) → total (parts J) (λ l. rankOf (partOf J l)) ≡ J * 
 ranks-total J =
     ap (λ n. total n (λ l. rankOf (partOf J l))) (count J)
     ∙ total-split (J + 1) J (λ l. rankOf (partOf J l))
-    ∙ ap₂ _+_ (total-cong (J + 1) (λ j h. ap rankOf (partOf-phi J j (omega arith))) ∙ total-next J (λ j. j)) (total-cong J (λ j _. ap rankOf (partOf-psi J j)) ∙ first-successors J)
+    ∙ ap₂ _+_
+    (total-cong (J + 1) (λ j h. ap rankOf (partOf-phi J j (omega arith))) ∙ total-next J (λ j. j))
+    (total-cong J (λ j _. ap rankOf (partOf-psi J j)) ∙ first-successors J)
     ∙ omega (arith, first-numbers J)
   where
     count : (J : ℕ) → 2 * J + 1 ≡ J + 1 + J
     count J = omega arith
 
 module _ (c : Chain) where
+  abbrev J : ℕ
+  J = c .last
+
+  abbrev n : ℕ
+  n = parts J
+
+  abbrev kind : ℕ → Part
+  kind = partOf J
+
   abbrev pub rank : ℕ → ℕ
-  rank k = rankOf (partOf (c .last) k)
+  rank k = rankOf (kind k)
+
+  -- the own weight of part k, where k and l are one
+  abbrev onDiagonal : ℕ → ℕ → ℤ
+  onDiagonal k l = only (eqb k l) (pos (own c k))
 
   -- ---- rows of the matrix
 
@@ -53,79 +68,92 @@ module _ (c : Chain) where
   sign-size (Ψ i) (Φ j) n = natAbs-* (negsuc 0) (pos n) ∙ omega arith
 
   -- an entry, where the g of part k's rank are at most b
-  entry-size : (k l b : ℕ) → k < parts (c .last) → l < parts (c .last) → ((d : ℕ) → d < rank k → c .g d ≤ b)
-      → natAbs (matrix c k l) ≤ natAbs (only (eqb k l) (pos (own c k))) + rank l * b
+  entry-size : (k l b : ℕ) → k < n → l < n → ((d : ℕ) → d < rank k → c .g d ≤ b)
+      → natAbs (matrix c k l) ≤ natAbs (onDiagonal k l) + rank l * b
   entry-size k l b k-below l-below few =
-      let n : ℕ = min (rank k) (rank l) in
-      let shared : natAbs (rankEntry c (partOf (c .last) k) (partOf (c .last) l)) ≡ total n (c .g) =
-      ap (λ z. natAbs (signOf (partOf (c .last) k) *ℤ signOf (partOf (c .last) l) *ℤ z)) (sym (pos-total n (c .g)))
-      ∙ sign-size (partOf (c .last) k) (partOf (c .last) l) (total n (c .g)) in
-      let bounded : total n (c .g) ≤ n * b = total-bound n b (λ d h. few d (omega arith)) in
+      let m : ℕ = min (rank k) (rank l) in
+      let shared : natAbs (rankEntry c (kind k) (kind l)) ≡ total m (c .g) =
+      ap (λ z. natAbs (signOf (kind k) *ℤ signOf (kind l) *ℤ z)) (sym (pos-total m (c .g)))
+      ∙ sign-size (kind k) (kind l) (total m (c .g)) in
+      let bounded : total m (c .g) ≤ m * b = total-bound m b (λ d h. few d (omega arith)) in
       rw (matrix-by-ranks c k l k-below l-below)
-      (le-trans (natAbs-+ (only (eqb k l) (pos (own c k))) (rankEntry c (partOf (c .last) k) (partOf (c .last) l)))
-      (omega (arith, shared, bounded, mul-le-mul-right b (smaller (rank k) (rank l)))))
+      (le-trans (natAbs-+ (onDiagonal k l) (rankEntry c (kind k) (kind l)))
+      (omega (arith, mul-le-mul-right b (smaller (rank k) (rank l)))))
     where
       smaller : (a b : ℕ) → min a b ≤ b
       smaller a b = omega arith
 
-  diagonal-total : (k : ℕ) → k < parts (c .last) → total (parts (c .last)) (λ l. natAbs (only (eqb k l) (pos (own c k)))) ≡ own c k
+  diagonal-total : (k : ℕ) → k < n → total n (λ l. natAbs (onDiagonal k l)) ≡ own c k
   diagonal-total k below = ap natAbs (
-      pos-total (parts (c .last)) (λ l. natAbs (only (eqb k l) (pos (own c k))))
-      ∙ sum-one (parts (c .last)) k below (λ l _ apart. ap (λ z. pos (natAbs z)) (only-no (eqb k l) (pos (own c k)) (not-T (eqb k l) (λ t. apart (sym (eqb→eq k l t))))))
-      ∙ ap (λ z. pos (natAbs z)) (only-yes (eqb k k) (pos (own c k)) (eqb-refl k)))
+      pos-total n (λ l. natAbs (onDiagonal k l))
+      ∙ sum-one n k below (λ l _ away. ap (λ z. pos (natAbs z)) (only-apart k l (pos (own c k)) (λ same. away (sym same))))
+      ∙ ap (λ z. pos (natAbs z)) (only-same k (pos (own c k))))
 
   -- the sizes of a row come to at most D + J·(J + 1)·b
-  pub row-size : (k b : ℕ) → k < parts (c .last) → ((d : ℕ) → d < rank k → c .g d ≤ b)
-      → sizes (parts (c .last)) (matrix c k) ≤ own c k + c .last * (c .last + 1) * b
+  pub row-size : (k b : ℕ) → k < n → ((d : ℕ) → d < rank k → c .g d ≤ b) → sizes n (matrix c k) ≤ own c k + J * (J + 1) * b
   row-size k b below few =
-      le-trans (total-mono (parts (c .last)) (λ l l-below. entry-size k l b below l-below few))
+      le-trans (total-mono n (λ l l-below. entry-size k l b below l-below few))
       (le-of-eq (
-      total-+ (parts (c .last)) (λ l. natAbs (only (eqb k l) (pos (own c k)))) (λ l. rank l * b)
-      ∙ ap₂ _+_ (diagonal-total k below) (total-scale-right (parts (c .last)) b rank ∙ ap (λ n. n * b) (ranks-total (c .last)))))
+      total-+ n (λ l. natAbs (onDiagonal k l)) (λ l. rank l * b)
+      ∙ ap₂ _+_ (diagonal-total k below) (total-scale-right n b rank ∙ ap (λ n. n * b) (ranks-total J))))
 
   -- ---- right-hand side and residues
 
   pub record Limits (W G X : ℕ) : Type 0 where
-    pub own-to : (k : ℕ) → k < parts (c .last) → own c k ≤ W
-    pub shares-to : (d : ℕ) → d < c .last → c .g d ≤ G
-    pub firsts-to : (k : ℕ) → k < parts (c .last) → natAbs (firstsOf c (partOf (c .last) k)) ≤ own c k * X
-    pub ratios-to : (d : ℕ) → d < c .last → natAbs (c .y (c .last - d)) ≤ X
+    pub own-to : (k : ℕ) → k < n → own c k ≤ W
+    pub shares-to : (d : ℕ) → d < J → c .g d ≤ G
+    pub firsts-to : (k : ℕ) → k < n → natAbs (firstsOf c (kind k)) ≤ own c k * X
+    pub ratios-to : (d : ℕ) → d < J → natAbs (c .y (J - d)) ≤ X
 
   module _ {W G X : ℕ} (h : Limits W G X) where
-    shares-of : (k : ℕ) → k < parts (c .last) → (d : ℕ) → d < rank k → c .g d ≤ G
-    shares-of k below d d-below = h .shares-to d (omega (arith, rank-below (c .last) k below))
+    shares-of : (k : ℕ) → k < n → (d : ℕ) → d < rank k → c .g d ≤ G
+    shares-of k below d d-below = h .shares-to d (omega (arith, rank-below J k below))
 
-    pub row-limit : (k : ℕ) → k < parts (c .last) → sizes (parts (c .last)) (matrix c k) ≤ W + c .last * (c .last + 1) * G
+    pub row-limit : (k : ℕ) → k < n → sizes n (matrix c k) ≤ W + J * (J + 1) * G
     row-limit k below = omega (arith, row-size k G below (shares-of k below), h .own-to k below)
 
     -- the g that two parts share, and on the diagonal the own weight besides
-    pub entry-limit : (k l : ℕ) → k < parts (c .last) → l < parts (c .last) → natAbs (matrix c k l) ≤ natAbs (only (eqb k l) (pos (own c k))) + c .last * G
-    entry-limit k l k-below l-below = omega (arith, entry-size k l G k-below l-below (shares-of k k-below), mul-le-mul-right G (rank-below (c .last) l l-below))
+    pub entry-limit : (k l : ℕ) → k < n → l < n → natAbs (matrix c k l) ≤ natAbs (onDiagonal k l) + J * G
+    entry-limit k l k-below l-below =
+        omega (arith, entry-size k l G k-below l-below (shares-of k k-below), mul-le-mul-right G (rank-below J l l-below))
 
-    pub target-limit : (k : ℕ) → k < parts (c .last) → natAbs (rightHand c k) ≤ (W + c .last * G) * X
+    pub target-limit : (k : ℕ) → k < n → natAbs (rightHand c k) ≤ (W + J * G) * X
     unfolding rightHand
     target-limit k below =
-        let n : ℕ = rank k in
-        let ratios : natAbs (ratiosOfLast c n) ≤ n * (G * X) =
-        rw (ratios-by-development c n (rank-below (c .last) k below))
-        (le-trans (sum-size n (λ d. pos (c .g d) *ℤ c .y (c .last - d)))
-        (total-bound n (G * X) (λ d d-below. natAbs-*-≤ (pos (c .g d)) (c .y (c .last - d)) (shares-of k below d d-below) (h .ratios-to d (omega (arith, rank-below (c .last) k below)))))) in
-        let signed : natAbs (signOf (partOf (c .last) k) *ℤ ratiosOfLast c n) ≡ natAbs (ratiosOfLast c n) = one-sign (partOf (c .last) k) (ratiosOfLast c n) in
-        rw (target-by-rank c (partOf (c .last) k))
-        (le-trans (natAbs-+ (firstsOf c (partOf (c .last) k)) (signOf (partOf (c .last) k) *ℤ ratiosOfLast c n))
-        (omega (arith, signed, ratios, h .firsts-to k below, mul-le-mul-right X (h .own-to k below), mul-le-mul-right (G * X) (rank-below (c .last) k below))))
+        let signed = one-sign (kind k) (ratiosOfLast c r) in
+        let firsts = h .firsts-to k below in
+        rw (target-by-rank c (kind k))
+        (le-trans (natAbs-+ (firstsOf c (kind k)) (signOf (kind k) *ℤ ratiosOfLast c r))
+        (omega (arith, ratios, mul-le-mul-right X (h .own-to k below), mul-le-mul-right (G * X) in-years)))
       where
+        r : ℕ
+        r = rank k
+
+        in-years : r ≤ J
+        in-years = rank-below J k below
+
+        term : ℕ → ℤ
+        term d = pos (c .g d) *ℤ c .y (J - d)
+
+        term-to : (d : ℕ) → d < r → natAbs (term d) ≤ G * X
+        term-to d past = natAbs-*-≤ (pos (c .g d)) (c .y (J - d)) (shares-of k below d past) (h .ratios-to d (omega (arith, in-years)))
+
+        ratios : natAbs (ratiosOfLast c r) ≤ r * (G * X)
+        ratios = rw (ratios-by-development c r in-years) (le-trans (sum-size r term) (total-bound r (G * X) term-to))
+
         one-sign : (a : Part) (z : ℤ) → natAbs (signOf a *ℤ z) ≡ natAbs z
         one-sign (Φ j) z = natAbs-* (pos 1) z ∙ omega arith
         one-sign (Ψ j) z = natAbs-* (negsuc 0) z ∙ omega arith
 
     -- of a whole mean whose parts are at most M in size
-    pub residue-limit : (M : ℕ) (μ : Vector) → ((l : ℕ) → l < parts (c .last) → natAbs (μ l) ≤ M) → (k : ℕ) → k < parts (c .last)
-        → natAbs (residueTimes c 1 μ k) ≤ (W + c .last * (c .last + 1) * G) * M + (W + c .last * G) * X
+    pub residue-limit : (M : ℕ) (μ : Vector) → ((l : ℕ) → l < n → natAbs (μ l) ≤ M) → (k : ℕ) → k < n
+        → natAbs (residueTimes c 1 μ k) ≤ (W + J * (J + 1) * G) * M + (W + J * G) * X
     unfolding residueTimes
     residue-limit M μ small k below =
-        let products : sizes (parts (c .last)) (λ l. matrix c k l *ℤ μ l) ≤ sizes (parts (c .last)) (matrix c k) * M =
-        le-trans (total-mono (parts (c .last)) (λ l l-below. natAbs-*-≤ (matrix c k l) (μ l) (le-refl (natAbs (matrix c k l))) (small l l-below)))
-        (le-of-eq (total-scale-right (parts (c .last)) M (λ l. natAbs (matrix c k l)))) in
-        le-trans (natAbs-- (sum (parts (c .last)) (λ l. matrix c k l *ℤ μ l)) (pos 1 *ℤ rightHand c k))
-        (omega (arith, sum-size (parts (c .last)) (λ l. matrix c k l *ℤ μ l), products, mul-le-mul-right M (row-limit k below), target-limit k below, ap natAbs (*ℤ-idl (rightHand c k))))
+        let products : sizes n (λ l. matrix c k l *ℤ μ l) ≤ sizes n (matrix c k) * M =
+        le-trans (total-mono n (λ l l-below. natAbs-*-≤ (matrix c k l) (μ l) (le-refl (natAbs (matrix c k l))) (small l l-below)))
+        (le-of-eq (total-scale-right n M (λ l. natAbs (matrix c k l)))) in
+        let sums = sum-size n (λ l. matrix c k l *ℤ μ l) in
+        let once = ap natAbs (*ℤ-idl (rightHand c k)) in
+        le-trans (natAbs-- (sum n (λ l. matrix c k l *ℤ μ l)) (pos 1 *ℤ rightHand c k))
+        (omega (arith, mul-le-mul-right M (row-limit k below), target-limit k below))

@@ -1,5 +1,5 @@
--- One step of a sweep: it changes one part, which stays inside the limits; the new residues are the old plus the part's column times the change;
--- and the loss does not grow.
+-- One step of a sweep: it changes one part, which stays inside the limits; the new residues are the old plus the part's column times
+-- the change; and the loss does not grow.
 use Prim.Native.Nat.{ℕ, _*_, _≤_, _<_}
 use mathlib.Core.Path.{_≡_, sym, ap, _∙_, subst}
 use mathlib.Core.Logic.{_≢_, _⊎_, inl, inr}
@@ -27,25 +27,29 @@ use Rattle.definitions.specs.Sweep.{bringBack, change, step}
 
 -- ---- brought back
 
--- a part above the limits, below them, or inside
-by-side : (z : ℤ) (P : ℤ → Type 0) → (pos partLimit <ℤ z → P (pos partLimit)) → (z <ℤ negℤ (pos partLimit) → P (negℤ (pos partLimit)))
-    → (negℤ (pos partLimit) ≤ℤ z → z ≤ℤ pos partLimit → P z) → P (bringBack z)
-unfolding bringBack
-by-side z P above below inside = first (ltZ (pos partLimit) z) ltZ-yes ltZ-no
-  where
-    second : (t : Bool) → (T t → z <ℤ negℤ (pos partLimit)) → (T (not t) → negℤ (pos partLimit) ≤ℤ z) → z ≤ℤ pos partLimit → P (cond t (negℤ (pos partLimit)) z)
-    second true past within top = below (past tt)
-    second false past within top = inside (within tt) top
+abbrev top : ℤ
+top = pos partLimit
 
-    first : (t : Bool) → (T t → pos partLimit <ℤ z) → (T (not t) → z ≤ℤ pos partLimit)
-        → P (cond t (pos partLimit) (cond (ltZ z (negℤ (pos partLimit))) (negℤ (pos partLimit)) z))
+abbrev bottom : ℤ
+bottom = negℤ (pos partLimit)
+
+-- a part above the limits, below them, or inside
+by-side : (z : ℤ) (P : ℤ → Type 0) → (top <ℤ z → P top) → (z <ℤ bottom → P bottom) → (bottom ≤ℤ z → z ≤ℤ top → P z) → P (bringBack z)
+unfolding bringBack
+by-side z P above below inside = first (ltZ top z) ltZ-yes ltZ-no
+  where
+    second : (t : Bool) → (T t → z <ℤ bottom) → (T (not t) → bottom ≤ℤ z) → z ≤ℤ top → P (cond t bottom z)
+    second true past within high = below (past tt)
+    second false past within high = inside (within tt) high
+
+    first : (t : Bool) → (T t → top <ℤ z) → (T (not t) → z ≤ℤ top) → P (cond t top (cond (ltZ z bottom) bottom z))
     first true past within = above (past tt)
-    first false past within = second (ltZ z (negℤ (pos partLimit))) ltZ-yes ltZ-no (within tt)
+    first false past within = second (ltZ z bottom) ltZ-yes ltZ-no (within tt)
 
 pub bringBack-inside : (z : ℤ) → natAbs (bringBack z) ≤ partLimit
 bringBack-inside z = by-side z (λ r. natAbs r ≤ partLimit) (λ _. omega arith) (λ _. omega arith) inside
   where
-    inside : negℤ (pos partLimit) ≤ℤ z → z ≤ℤ pos partLimit → natAbs z ≤ partLimit
+    inside : bottom ≤ℤ z → z ≤ℤ top → natAbs z ≤ partLimit
     inside low high = simp linear (omega zarith)
 
 -- ---- a part's change never raises the loss: A·δ² + 2·ρ·δ ≤ 0 for every δ from 0 to the floor of (A − 2ρ) / 2A
@@ -59,17 +63,20 @@ module _ (A ρ δ₀ δ : ℤ) (some : pos 1 ≤ℤ A) where
           let positive-A : pos 0 ≤ℤ A = simp linear (omega zarith) in
           let product = *ℤ-mono positive-A to in
           let least = *ℤ-mono positive-A positive in
-          let down : pos 0 ≤ℤ negℤ (pos 2 *ℤ ρ +ℤ A *ℤ δ) = simp linear (omega (zarith, simp linear at floor, simp linear at product, simp linear at least)) in
+          let down : pos 0 ≤ℤ negℤ (pos 2 *ℤ ρ +ℤ A *ℤ δ) =
+          simp linear (omega (zarith, simp linear at floor, simp linear at product, simp linear at least)) in
           excess (ring (δ ∷ ρ ∷ A ∷ []) (λ d r a. num 0 ⊟ d ⊠ (num 2 ⊠ r ⊞ a ⊠ d) ≐ d ⊠ ⊖ (num 2 ⊠ r ⊞ a ⊠ d)) tt) (*ℤ-nonneg from down)
       by-size (inr none) =
           let nothing : δ ≡ pos 0 = simp linear (omega zarith) in
           rw nothing (≤ℤ-of-≡ (ring (ρ ∷ A ∷ []) (λ r a. num 0 ⊠ (num 2 ⊠ r ⊞ a ⊠ num 0) ≐ num 0) tt))
 
 -- the same below 0, turned round
-falls-down : (A ρ δ₀ δ : ℤ) → pos 1 ≤ℤ A → (A -ℤ pos 2 *ℤ ρ) <ℤ (pos 2 *ℤ (A *ℤ (δ₀ +ℤ pos 1))) → δ ≤ℤ pos 0 → δ₀ ≤ℤ δ → (δ *ℤ (pos 2 *ℤ ρ +ℤ A *ℤ δ)) ≤ℤ pos 0
+falls-down : (A ρ δ₀ δ : ℤ) → pos 1 ≤ℤ A → (A -ℤ pos 2 *ℤ ρ) <ℤ (pos 2 *ℤ (A *ℤ (δ₀ +ℤ pos 1))) → δ ≤ℤ pos 0 → δ₀ ≤ℤ δ
+    → (δ *ℤ (pos 2 *ℤ ρ +ℤ A *ℤ δ)) ≤ℤ pos 0
 falls-down A ρ δ₀ δ some floor from to =
     let turned = ring (A ∷ δ₀ ∷ []) (λ a d. num 2 ⊠ (a ⊠ (d ⊞ num 1)) ≐ num 2 ⊠ a ⊟ num 2 ⊠ (a ⊠ ⊖ d)) tt in
-    let floor-turned : (pos 2 *ℤ (A *ℤ negℤ δ₀)) ≤ℤ (A -ℤ pos 2 *ℤ negℤ ρ) = simp linear (omega (zarith, simp linear at (rw turned at floor))) in
+    let floor-turned : (pos 2 *ℤ (A *ℤ negℤ δ₀)) ≤ℤ (A -ℤ pos 2 *ℤ negℤ ρ) =
+    simp linear (omega (zarith, simp linear at (rw turned at floor))) in
     rw (ring (δ ∷ ρ ∷ A ∷ []) (λ d r a. d ⊠ (num 2 ⊠ r ⊞ a ⊠ d) ≐ ⊖ d ⊠ (num 2 ⊠ ⊖ r ⊞ a ⊠ ⊖ d)) tt)
     (falls-up A (negℤ ρ) (negℤ δ₀) (negℤ δ) some floor-turned (negℤ-anti from) (negℤ-anti to))
 
@@ -78,8 +85,10 @@ pub moved-falls : (A ρ v : ℤ) → pos 1 ≤ℤ A → natAbs v ≤ partLimit
     → let δ : ℤ = bringBack (v +ℤ shrZ (A -ℤ pos 2 *ℤ ρ) (2 * natAbs A)) -ℤ v in (δ *ℤ (pos 2 *ℤ ρ +ℤ A *ℤ δ)) ≤ℤ pos 0
 moved-falls A ρ v some inside =
     by-side (v +ℤ δ₀) (λ r. ((r -ℤ v) *ℤ (pos 2 *ℤ ρ +ℤ A *ℤ (r -ℤ v))) ≤ℤ pos 0)
-    (λ past. falls-up A ρ δ₀ (pos partLimit -ℤ v) some low (simp linear (omega (zarith, simp linear at inside))) (simp linear (omega (zarith, simp linear at past))))
-    (λ past. falls-down A ρ δ₀ (negℤ (pos partLimit) -ℤ v) some high (simp linear (omega (zarith, simp linear at inside))) (simp linear (omega (zarith, simp linear at past))))
+    (λ past. falls-up A ρ δ₀ (top -ℤ v) some low
+    (simp linear (omega (zarith, simp linear at inside))) (simp linear (omega (zarith, simp linear at past))))
+    (λ past. falls-down A ρ δ₀ (bottom -ℤ v) some high
+    (simp linear (omega (zarith, simp linear at inside))) (simp linear (omega (zarith, simp linear at past))))
     (λ _ _. rw (ring (v ∷ δ₀ ∷ []) (λ v d. v ⊞ d ⊟ v ≐ d) tt) (either (≤ℤ-total (pos 0) δ₀)))
   where
     δ₀ : ℤ
@@ -113,8 +122,12 @@ sum-set n f μ k below there z =
     sum-cong n (λ l _. ring (f l ∷ part (set μ k z) l ∷ part μ l ∷ []) (λ a v u. a ⊠ v ≐ a ⊠ u ⊞ a ⊠ (v ⊟ u)) tt)
     ∙ sum-+ n (λ l. f l *ℤ part μ l) (λ l. f l *ℤ (part (set μ k z) l -ℤ part μ l))
     ∙ ap (λ s. sum n (λ l. f l *ℤ part μ l) +ℤ s)
-    (sum-one n k below (λ l _ apart. ap (λ v. f l *ℤ (v -ℤ part μ l)) (getD-set-other μ k l z (pos 0) apart) ∙ ring (f l ∷ part μ l ∷ []) (λ a u. a ⊠ (u ⊟ u) ≐ num 0) tt)
-    ∙ ap (λ v. f k *ℤ (v -ℤ part μ k)) (getD-set-same μ k z (pos 0) there))
+    (sum-one n k below elsewhere ∙ ap (λ v. f k *ℤ (v -ℤ part μ k)) (getD-set-same μ k z (pos 0) there))
+  where
+    elsewhere : (l : ℕ) → l < n → l ≢ k → f l *ℤ (part (set μ k z) l -ℤ part μ l) ≡ pos 0
+    elsewhere l _ apart =
+        ap (λ v. f l *ℤ (v -ℤ part μ l)) (getD-set-other μ k l z (pos 0) apart)
+        ∙ ring (f l ∷ part μ l ∷ []) (λ a u. a ⊠ (u ⊟ u) ≐ num 0) tt
 
 module _ (F : Figures) (μ : List ℤ) (k : ℕ) (below : k < parts (F .last)) (there : k < length μ) where
   abbrev moved : ℤ
@@ -148,4 +161,5 @@ module _ (F : Figures) (μ : List ℤ) (k : ℕ) (below : k < parts (F .last)) (
   unfolding residue step
   step-residues i =
       ap (λ s. s -ℤ part (F .rightHand) i) (sum-set (parts (F .last)) (entry F i) μ k below there moved)
-      ∙ ring (sum (parts (F .last)) (λ l. entry F i l *ℤ part μ l) ∷ (entry F i k *ℤ added) ∷ part (F .rightHand) i ∷ []) (λ s a b. s ⊞ a ⊟ b ≐ s ⊟ b ⊞ a) tt
+      ∙ ring (sum (parts (F .last)) (λ l. entry F i l *ℤ part μ l) ∷ (entry F i k *ℤ added) ∷ part (F .rightHand) i ∷ [])
+      (λ s a b. s ⊞ a ⊟ b ≐ s ⊟ b ⊞ a) tt

@@ -1,6 +1,7 @@
 -- No step of a sweep raises the loss, and so no sweep does; a swept mean stays inside the limits.
 use Prim.Native.Nat.{ℕ, zero, suc, _+_, _≤_, _<_}
 use mathlib.Core.Path.{_≡_, sym, ap, ap₂, _∙_, subst}
+use mathlib.Core.Logic.{_≢_}
 use mathlib.Core.List.{List, [], _∷_}
 use mathlib.Core.Bool.{Bool, true, false, cond, _||_}
 use native.Mathlib.Omega.{arith}
@@ -13,39 +14,52 @@ use Rattle.integers.specs.Order.{≤ℤ-trans, pos-≤}
 use Rattle.integers.specs.Solver.{ring, _⊞_, _⊟_, _⊠_, num, _≐_}
 use Rattle.integers.specs.Sum.{sum, sum-cong, sum-+}
 use Rattle.integers.specs.SumRange.{sum-one}
-use Rattle.definitions.specs.Words.{tabFrom, part}
+use Rattle.definitions.specs.Words.{part}
 use Rattle.definitions.specs.Layout.{Bytes, lastYear, parts}
 use Rattle.definitions.specs.Loss.{Vector, loss}
 use Rattle.definitions.specs.Refusals.{partLimit}
 use Rattle.definitions.specs.Observations.{Chain, chainOf}
-use Rattle.definitions.specs.Matrix.{matrix, residueTimes, Figures, figuresOf, entry, residue, passes}
+use Rattle.definitions.specs.Matrix.{residueTimes, Figures, figuresOf, entry, residue, passes}
 use Rattle.definitions.specs.Sweep.{change, step, sweepFrom, oneSweep, sweeps, sweepLimit}
 use Rattle.laws.specs.Accepted.{AcceptedFile}
 use Rattle.laws.specs.Diagonal.{diagonal-is}
 use Rattle.laws.specs.FileBounds.{file-owned}
-use Rattle.laws.specs.Judged.{tab-at, residue-of-file}
+use Rattle.laws.specs.Judged.{entry-of-file, residue-of-file}
 use Rattle.laws.specs.LossForm.{loss-is-form}
 use Rattle.laws.specs.PrecisionMatrix.{lossForm, residue-is-form}
-use Rattle.laws.specs.Quadratic.{formLoss, formResidue, apart, along, ownSquares, combinedSquares, expansion, along-apart}
+use Rattle.laws.specs.Quadratic.{Form, formLoss, formResidue, apart, along, ownSquares, combinedSquares, expansion, along-apart}
 use Rattle.laws.specs.StepLaws.{added, moved-falls, step-at, step-elsewhere, step-length, step-inside, step-residues}
 
 -- the losses of two whole means differ by the sum of their residues along what they are apart
 pub loss-difference : (c : Chain) (u μ : Vector)
     → loss c u ≡ loss c μ +ℤ sum (parts (c .last)) (λ k. (residueTimes c 1 μ k +ℤ residueTimes c 1 u k) *ℤ (u k -ℤ μ k))
 loss-difference c u μ =
-    let w : Vector = apart (lossForm c) (pos 1) u μ in
-    let here : ℤ = along (lossForm c) μ w in
-    let there : ℤ = sum (parts (c .last)) (λ k. formResidue (lossForm c) (pos 1) u k *ℤ w k) in
     loss-is-form c 1 u
-    ∙ expansion (lossForm c) (pos 1) u μ
-    ∙ ring (formLoss (lossForm c) (pos 1) μ ∷ here ∷ (ownSquares (lossForm c) w +ℤ combinedSquares (lossForm c) w) ∷ [])
+    ∙ expansion q (pos 1) u μ
+    ∙ ring (formLoss q (pos 1) μ ∷ here ∷ (ownSquares q w +ℤ combinedSquares q w) ∷ [])
     (λ l a s. num 1 ⊠ num 1 ⊠ l ⊞ num 2 ⊠ num 1 ⊠ a ⊞ s ≐ l ⊞ (a ⊞ (num 1 ⊠ a ⊞ s))) tt
-    ∙ ap₂ (λ l s. l +ℤ (here +ℤ s)) (sym (loss-is-form c 1 μ)) (sym (along-apart (lossForm c) (pos 1) u μ))
-    ∙ ap (λ s. loss c μ +ℤ s)
-    (sym (sum-+ (parts (c .last)) (λ k. formResidue (lossForm c) (pos 1) μ k *ℤ w k) (λ k. formResidue (lossForm c) (pos 1) u k *ℤ w k))
-    ∙ sum-cong (parts (c .last)) (λ k below.
-    ring (formResidue (lossForm c) (pos 1) μ k ∷ formResidue (lossForm c) (pos 1) u k ∷ u k ∷ μ k ∷ []) (λ r s u v. r ⊠ (u ⊟ num 1 ⊠ v) ⊞ s ⊠ (u ⊟ num 1 ⊠ v) ≐ (r ⊞ s) ⊠ (u ⊟ v)) tt
-    ∙ ap₂ (λ r s. (r +ℤ s) *ℤ (u k -ℤ μ k)) (sym (residue-is-form c 1 μ k below)) (sym (residue-is-form c 1 u k below))))
+    ∙ ap₂ (λ l s. l +ℤ (here +ℤ s)) (sym (loss-is-form c 1 μ)) (sym (along-apart q (pos 1) u μ))
+    ∙ ap (λ s. loss c μ +ℤ s) (sym (sum-+ n (λ k. r μ k *ℤ w k) (λ k. r u k *ℤ w k)) ∙ sum-cong n at-part)
+  where
+    q : Form
+    q = lossForm c
+
+    n : ℕ
+    n = parts (c .last)
+
+    w : Vector
+    w = apart q (pos 1) u μ
+
+    r : Vector → ℕ → ℤ
+    r = formResidue q (pos 1)
+
+    here : ℤ
+    here = along q μ w
+
+    at-part : (k : ℕ) → k < n → r μ k *ℤ w k +ℤ r u k *ℤ w k ≡ (residueTimes c 1 μ k +ℤ residueTimes c 1 u k) *ℤ (u k -ℤ μ k)
+    at-part k below =
+        ring (r μ k ∷ r u k ∷ u k ∷ μ k ∷ []) (λ r s u v. r ⊠ (u ⊟ num 1 ⊠ v) ⊞ s ⊠ (u ⊟ num 1 ⊠ v) ≐ (r ⊞ s) ⊠ (u ⊟ v)) tt
+        ∙ ap₂ (λ r s. (r +ℤ s) *ℤ (u k -ℤ μ k)) (sym (residue-is-form c 1 μ k below)) (sym (residue-is-form c 1 u k below))
 
 -- a mean of a file: its parts, each inside the limits
 pub record MeanOf (f : Bytes) (μ : List ℤ) : Type 0 where
@@ -56,12 +70,13 @@ module _ (f : Bytes) (h : AcceptedFile f) where
   abbrev F : Figures
   F = figuresOf f
 
+  abbrev c : Chain
+  c = chainOf f
+
   diagonal-at-least-one : (k : ℕ) → k < parts (lastYear f) → pos 1 ≤ℤ entry F k k
-  unfolding figuresOf
   diagonal-at-least-one k below =
       subst (λ z. pos 1 ≤ℤ z)
-      (sym (ap (λ row. part row k) (tab-at (parts (lastYear f)) (λ i. tabFrom 0 (parts (lastYear f)) (matrix (chainOf f) i)) k [] below)
-      ∙ tab-at (parts (lastYear f)) (matrix (chainOf f) k) k (pos 0) below ∙ diagonal-is (chainOf f) k below))
+      (sym (entry-of-file f k k below below ∙ diagonal-is c k below))
       (pos-≤ .0 (omega (arith, file-owned f h .owned k below)))
 
   module _ (μ : List ℤ) (k : ℕ) (m : MeanOf f μ) (below : k < parts (lastYear f)) where
@@ -72,24 +87,43 @@ module _ (f : Bytes) (h : AcceptedFile f) where
     unfolding figuresOf
     in-figures = below
 
-    pub step-mean : MeanOf f (step F k μ)
+    -- the mean after the step, and what the step adds to part k
+    abbrev ν : List ℤ
+    ν = step F k μ
+
+    abbrev δ : ℤ
+    δ = added F μ k in-figures there
+
+    pub step-mean : MeanOf f ν
     step-mean = record { whole = step-length F μ k in-figures there ∙ m .whole; inside = step-inside F μ k in-figures there (m .inside) }
 
-    pub step-lowers : loss (chainOf f) (part (step F k μ)) ≤ℤ loss (chainOf f) (part μ)
+    -- what part l adds to the loss
+    abbrev adds : ℕ → ℤ
+    adds l = (residueTimes c 1 (part μ) l +ℤ residueTimes c 1 (part ν) l) *ℤ (part ν l -ℤ part μ l)
+
+    elsewhere : (l : ℕ) → l ≢ k → adds l ≡ pos 0
+    elsewhere l away =
+        let r : ℤ = residueTimes c 1 (part μ) l in
+        let s : ℤ = residueTimes c 1 (part ν) l in
+        ap (λ v. (r +ℤ s) *ℤ (v -ℤ part μ l)) (step-elsewhere F μ k in-figures there l away)
+        ∙ ring (r ∷ s ∷ part μ l ∷ []) (λ r s u. (r ⊞ s) ⊠ (u ⊟ u) ≐ num 0) tt
+
+    here : adds k ≡ δ *ℤ (pos 2 *ℤ residue F (part μ) k +ℤ entry F k k *ℤ δ)
+    here =
+        let before = sym (residue-of-file f (part μ) k below) in
+        let after = sym (residue-of-file f (part ν) k below) ∙ step-residues F μ k in-figures there k in
+        ap₂ (λ r v. r *ℤ (v -ℤ part μ k)) (ap₂ _+ℤ_ before after) (step-at F μ k in-figures there)
+        ∙ ring (residue F (part μ) k ∷ entry F k k ∷ δ ∷ []) (λ r a d. (r ⊞ (r ⊞ a ⊠ d)) ⊠ d ≐ d ⊠ (num 2 ⊠ r ⊞ a ⊠ d)) tt
+
+    difference : loss c (part ν) ≡ loss c (part μ) +ℤ δ *ℤ (pos 2 *ℤ residue F (part μ) k +ℤ entry F k k *ℤ δ)
+    difference =
+        loss-difference c (part ν) (part μ)
+        ∙ ap (λ s. loss c (part μ) +ℤ s) (sum-one (parts (lastYear f)) k below (λ l _ away. elsewhere l away) ∙ here)
+
+    pub step-lowers : loss c (part ν) ≤ℤ loss c (part μ)
     unfolding change
     step-lowers =
-        let δ : ℤ = added F μ k in-figures there in
         let fall = moved-falls (entry F k k) (residue F (part μ) k) (part μ k) (diagonal-at-least-one k below) (m .inside k) in
-        let difference : loss (chainOf f) (part (step F k μ)) ≡ loss (chainOf f) (part μ) +ℤ δ *ℤ (pos 2 *ℤ residue F (part μ) k +ℤ entry F k k *ℤ δ) =
-        loss-difference (chainOf f) (part (step F k μ)) (part μ)
-        ∙ ap (λ s. loss (chainOf f) (part μ) +ℤ s)
-        (sum-one (parts (lastYear f)) k below (λ l _ away.
-        ap (λ v. (residueTimes (chainOf f) 1 (part μ) l +ℤ residueTimes (chainOf f) 1 (part (step F k μ)) l) *ℤ (v -ℤ part μ l)) (step-elsewhere F μ k in-figures there l away)
-        ∙ ring (residueTimes (chainOf f) 1 (part μ) l ∷ residueTimes (chainOf f) 1 (part (step F k μ)) l ∷ part μ l ∷ []) (λ r s u. (r ⊞ s) ⊠ (u ⊟ u) ≐ num 0) tt)
-        ∙ ap₂ (λ r v. r *ℤ (v -ℤ part μ k))
-        (ap₂ _+ℤ_ (sym (residue-of-file f (part μ) k below)) (sym (residue-of-file f (part (step F k μ)) k below) ∙ step-residues F μ k in-figures there k))
-        (step-at F μ k in-figures there)
-        ∙ ring (residue F (part μ) k ∷ entry F k k ∷ δ ∷ []) (λ r a d. (r ⊞ (r ⊞ a ⊠ d)) ⊠ d ≐ d ⊠ (num 2 ⊠ r ⊞ a ⊠ d)) tt) in
         rw difference (simp linear (omega (zarith, simp linear at fall)))
 
   -- ---- one sweep, and the sweeps of a call
@@ -97,14 +131,14 @@ module _ (f : Bytes) (h : AcceptedFile f) where
   -- a mean that came of μ: a mean again, with a loss that is no larger
   pub record CameOf (μ ν : List ℤ) : Type 0 where
     pub mean : MeanOf f ν
-    pub lower : loss (chainOf f) (part ν) ≤ℤ loss (chainOf f) (part μ)
+    pub lower : loss c (part ν) ≤ℤ loss c (part μ)
 
   came-further : {μ ν ξ : List ℤ} → CameOf μ ν → CameOf ν ξ → CameOf μ ξ
   came-further a b = record { mean = b .mean; lower = ≤ℤ-trans (b .lower) (a .lower) }
 
   sweepFrom-came : (k n : ℕ) → k + n ≤ parts (lastYear f) → (μ : List ℤ) → MeanOf f μ → CameOf μ (sweepFrom F k n μ)
   unfolding sweepFrom
-  sweepFrom-came k zero within μ m = record { mean = m; lower = ≤ℤ-refl (loss (chainOf f) (part μ)) }
+  sweepFrom-came k zero within μ m = record { mean = m; lower = ≤ℤ-refl (loss c (part μ)) }
   sweepFrom-came k (suc n) within μ m =
       let below : k < parts (lastYear f) = omega arith in
       let stepped : CameOf μ (step F k μ) = record { mean = step-mean μ k m below; lower = step-lowers μ k m below } in
@@ -116,12 +150,12 @@ module _ (f : Bytes) (h : AcceptedFile f) where
 
   pub sweeps-came : (n : ℕ) (μ : List ℤ) (total : ℕ) → MeanOf f μ → CameOf μ (sweeps F n μ total .mean)
   unfolding sweeps
-  sweeps-came zero μ total m = record { mean = m; lower = ≤ℤ-refl (loss (chainOf f) (part μ)) }
+  sweeps-came zero μ total m = record { mean = m; lower = ≤ℤ-refl (loss c (part μ)) }
   sweeps-came (suc n) μ total m =
       let swept = oneSweep-came μ m in
       by-test (passes F (part μ) || leb sweepLimit total) (came-further swept (sweeps-came n (oneSweep F μ) (suc total) (swept .mean)))
     where
       by-test : (t : Bool) → CameOf μ (sweeps F n (oneSweep F μ) (suc total) .mean)
           → CameOf μ (cond t (record { mean = μ; swept = total }) (sweeps F n (oneSweep F μ) (suc total)) .mean)
-      by-test true further = record { mean = m; lower = ≤ℤ-refl (loss (chainOf f) (part μ)) }
+      by-test true further = record { mean = m; lower = ≤ℤ-refl (loss c (part μ)) }
       by-test false further = further

@@ -1,4 +1,4 @@
--- The listing, answer by answer: what the code shows of each of its branches. Assumes nothing.
+-- The listing, answer by answer: what the code shows of each of its branches.
 use Prim.Native.Nat.{ℕ, _≤_, _<_}
 use mathlib.Core.Path.{_≡_, refl, sym, ap, _∙_}
 use mathlib.Core.Bool.{true, cond}
@@ -31,7 +31,8 @@ module _ (years : ℕ) (st : State Figures) where
   by-sweep : Answer → List ℕ
   by-sweep a = printed a [] (λ total. readText years total (sweepsTo st 4096 .state))
 
-  pub sweep-settled : (total : ℕ) → settled total ≡ sweepsTo st 4096 .answer → readText years total (sweepsTo st 4096 .state) ≡ sweepText years st
+  pub sweep-settled : (total : ℕ) → settled total ≡ sweepsTo st 4096 .answer
+      → readText years total (sweepsTo st 4096 .state) ≡ sweepText years st
   unfolding sweepText by-sweep
   sweep-settled total e = ap by-sweep e
 

@@ -1,4 +1,4 @@
--- What a page holds once a text is put on it, and one text behind another. Assumes nothing.
+-- What a page holds once a text is put on it, and one text behind another.
 use Prim.Native.Nat.{ℕ, zero, suc}
 use mathlib.Core.Path.{_≡_, refl, sym, ap, subst, _∙_}
 use mathlib.Core.List.{List, [], _∷_, _++_, append-assoc, append-nil}
@@ -18,7 +18,8 @@ cut (suc n) [] ys = refl
 cut (suc n) (x ∷ xs) ys = ap (λ rest. x ∷ rest) (cut n xs ys)
 
 -- one text, then another behind it
-pub both : {page between now text more : List ℕ} {at middle end : ℕ} → Added page at text between middle → length between ≡ length page → Added between middle more now end
+pub both : {page between now text more : List ℕ} {at middle end : ℕ}
+    → Added page at text between middle → length between ≡ length page → Added between middle more now end
     → Added page at (text ++ more) now end
 both {page} {between} {now} {text} {more} {at} {middle} {end} a same b = record {
   counted = b .counted;

@@ -1,4 +1,4 @@
--- The lines of a listing as bytes. Assumes nothing.
+-- The lines of a listing as bytes.
 use Prim.Native.Nat.{ℕ, zero, suc, _+_, _/_, _%_}
 use mathlib.Core.Bool.{cond}
 use mathlib.Core.List.{List, [], _∷_, _++_}
@@ -39,4 +39,5 @@ partFrom r first k = signed (partAt (first + k)) r
 
 -- `refused `, a number, ` at `, a place
 abbrev pub refusalLine : ℕ → ℕ → List ℕ
-refusalLine number place = ((114 ∷ 101 ∷ 102 ∷ 117 ∷ 115 ∷ 101 ∷ 100 ∷ 32 ∷ []) ++ decimal number) ++ countLine (32 ∷ 97 ∷ 116 ∷ 32 ∷ []) place
+refusalLine number place =
+    ((114 ∷ 101 ∷ 102 ∷ 117 ∷ 115 ∷ 101 ∷ 100 ∷ 32 ∷ []) ++ decimal number) ++ countLine (32 ∷ 97 ∷ 116 ∷ 32 ∷ []) place

@@ -1,7 +1,7 @@
--- Laws of the lines: one part more, and the digits that the library spells. Assumes nothing.
+-- Laws of the lines: one part more, and the digits that the library spells.
 use Prim.Native.Nat.{ℕ, zero, suc, _+_, _-_, _/_, _%_, _^_, _≤_, _<_}
 use mathlib.Core.Path.{_≡_, refl, sym, ap, subst, _∙_}
-use mathlib.Core.Bool.{cond}
+use mathlib.Core.Bool.{Bool, cond}
 use mathlib.Core.List.{List, [], _∷_, _++_}
 use native.Mathlib.Nat.{pow-suc, one-le-pow, pow-le-pow-right, lt-of-not-le}
 use native.Mathlib.Decide.{decLe}
@@ -14,7 +14,8 @@ use Rattle.io.specs.Digits.{glyph, digits, Fewest}
 use Rattle.listing.specs.Text.{decimalFrom, signedDecimal, partLine, partLines}
 
 -- `psi 0 -1048576`
-example : partLine (112 ∷ 115 ∷ 105 ∷ 32 ∷ []) 0 (negsuc 1048575) ≡ 112 ∷ 115 ∷ 105 ∷ 32 ∷ 48 ∷ 32 ∷ 45 ∷ 49 ∷ 48 ∷ 52 ∷ 56 ∷ 53 ∷ 55 ∷ 54 ∷ 10 ∷ []
+example : partLine (112 ∷ 115 ∷ 105 ∷ 32 ∷ []) 0 (negsuc 1048575)
+    ≡ 112 ∷ 115 ∷ 105 ∷ 32 ∷ 48 ∷ 32 ∷ 45 ∷ 49 ∷ 48 ∷ 52 ∷ 56 ∷ 53 ∷ 55 ∷ 54 ∷ 10 ∷ []
 unfolding decimalFrom signedDecimal
 example = refl
 
@@ -41,15 +42,19 @@ large k n f =
     let from : 10 ^ suc k ≤ n = subst (λ m. 10 ^ m ≤ n) (sub-one (suc (suc k))) (f .2 (omega arith)) in
     omega (arith, from, pow-suc 10 k, one-le-pow k 10 (lit< tt))
 
+-- one digit, or those of n / 10 and the last
+abbrev either : ℕ → ℕ → Bool → List ℕ
+either more n t = cond t (glyph n ∷ []) (decimalFrom more (n / 10) ++ (glyph (n % 10) ∷ []))
+
 pub fewest : (more k n : ℕ) → Fewest 10 1 n k → k ≤ suc more → digits 10 k n ≡ decimalFrom more n
 unfolding decimalFrom
 fewest more zero n f few = absurd (omega (arith, f .0))
 fewest zero (suc zero) n f few = one n (f .1)
-fewest (suc more) (suc zero) n f few = one n (f .1) ∙ sym (ap (λ b. cond b (glyph n ∷ []) (decimalFrom more (n / 10) ++ (glyph (n % 10) ∷ []))) (lt-ltb n 10 (f .1)))
+fewest (suc more) (suc zero) n f few = one n (f .1) ∙ sym (ap (either more n) (lt-ltb n 10 (f .1)))
 fewest zero (suc (suc k)) n f few = absurd (omega arith)
 fewest (suc more) (suc (suc k)) n f few =
     ap (λ front. front ++ (glyph (n % 10) ∷ [])) (fewest more (suc k) (n / 10) (tenth k n f) (omega arith))
-    ∙ sym (ap (λ b. cond b (glyph n ∷ []) (decimalFrom more (n / 10) ++ (glyph (n % 10) ∷ []))) (le-ltb n 10 (large k n f)))
+    ∙ sym (ap (either more n) (le-ltb n 10 (large k n f)))
 
 -- a u64 has at most 20
 pub at-most-twenty : (k n : ℕ) → n < 2 ^ 64 → Fewest 10 1 n k → k ≤ 20

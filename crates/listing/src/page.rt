@@ -77,7 +77,10 @@ pub fn put_parts(
     count: usize,
 ) -> usize
     requires { ⌜ (at ≤ length (now page)) × (5 + 4 * (first + count) ≤ length (now «record»)) × (length (now «record») ≤ 4096) ⌝ }
-    ensures { λ r. ⌜ Added (now (page .entry)) at (partLines (now (name .entry)) (partFrom (now («record» .entry)) first) count) (now (page .exit)) r ⌝ }
+    ensures { λ r. ⌜ Added
+        (now (page .entry)) at
+        (partLines (now (name .entry)) (partFrom (now («record» .entry)) first) count)
+        (now (page .exit)) r ⌝ }
 {
     let mut end = at;
     let mut k = 0usize;

@@ -9,7 +9,7 @@ ghost use Rattle.scales.specs.Squaring.{Start, Next, FourLogarithms};
 // A cumulative amount of a triangle.
 pub struct Amount(pub u64);
 
-// A number of ticks: a logarithm, or a sum or difference of logarithms. A tick is 1/1,048,576 of a doubling.
+// A number of ticks: a logarithm, or a sum or difference of logarithms. A doubling has 1,048,576 of them.
 pub struct Ticks(pub i64);
 
 // A variance, in squared ticks.
@@ -100,7 +100,7 @@ pub fn four_logarithms_of(a: Amount, b: Amount, c: Amount, d: Amount) -> FourTic
     }
 }
 
-// The weight of a variance: 2^46 / v to the nearest, halves up. It is 0 for 0, and for all above 2^47.
+// The weight of a variance: 2^46 / v, rounded, a half up. It is 0 for 0, and for all above 2^47.
 pub fn weight_of(v: Variance) -> Weight
     ensures { λ r. ⌜ r .0 ≡ weight (v .0) ⌝ }
 {

@@ -1,4 +1,4 @@
--- `main` is safe and ends: the measure is the number of turns that are left. Nothing has to hold from turn to turn. Assumes nothing.
+-- `main` is safe and ends: the measure is the number of turns that are left. Nothing has to hold from turn to turn.
 use native.Mathlib.Omega.{arith}
 use Rattle.calls.proofs.main.Statement.{statement}
 use Rattle.calls.proofs.main.Tie as tie

@@ -1,5 +1,5 @@
 -- `fields::number` meets its contract. The loop's invariant: the value is the field of the bytes passed. The measure is how many
--- bytes are left. Assumes nothing.
+-- bytes are left.
 use Prim.Native.Nat.{_+_, _-_, _*_, _≤_, _<_, _^_}
 use mathlib.Core.Path.{_≡_, sym, ap, _∙_}
 use native.Mathlib.Omega.{arith}
@@ -10,6 +10,7 @@ use Rattle.fields.proofs.Bytes.{unsigned-none, unsigned-next, unsigned-
 use Prim.Native.Nat.{_+_, _-_, _≤_, _<_}
 use lib.ListN.{length}
 use Rattle.fields.proofs.number.Statement.{statement}
+use Rattle.fields.proofs.number.Lts as places
 use Rattle.fields.proofs.number.Tie as tie
 
 abbrev Inv-loop : tie.InvT-loop
@@ -31,21 +32,17 @@ cast-byte : tie.Need-cast-byte Inv-loop μ-loop
 cast-byte c = omega (arith, c .shared-slice-known .given (c .before .before .before .args .at + c .before .before .loop .i))
 
 -- the value with the next byte
-next : (c : tie.After-shared-slice-known Inv-loop μ-loop)
-    → c .before .before .loop .value * 256 + getD (now (c .before .before .before .args .s)) (c .before .before .before .args .at + c .before .before .loop .i) 0
-    ≡ unsigned (c .before .before .loop .i + 1) (c .before .before .before .args .at) (now (c .before .before .before .args .s))
-next c =
-    let a = c .before .before .before .args in
-    let l = c .before .before .loop in
-    let inside : a .at + l .i < length (now (a .s)) = omega arith in
-    ap (λ v. v * 256 + getD (now (a .s)) (a .at + l .i) 0) (l .inv .0) ∙ sym (unsigned-next (l .i) (a .at) (now (a .s)) inside)
+module _ (c : tie.After-shared-slice-known Inv-loop μ-loop) where
+  open places.Args (c .before .before .before .args) using (s, at)
+  open places.At-loop·own (c .before .before .loop) using (value, i)
 
-next-fits : (c : tie.After-shared-slice-known Inv-loop μ-loop)
-    → c .before .before .loop .value * 256 + getD (now (c .before .before .before .args .s)) (c .before .before .before .args .at + c .before .before .loop .i) 0 < 2 ^ 64
-next-fits c =
-    let a = c .before .before .before .args in
-    let l = c .before .before .loop in
-    rw (next c) (unsigned-fits (now (a .s)) (λ k. c .shared-slice-known .given k .fits) (a .at) (l .i + 1) (omega arith) (omega arith))
+  next : value * 256 + getD (now s) (at + i) 0 ≡ unsigned (i + 1) at (now s)
+  next =
+      let inside : at + i < length (now s) = omega arith in
+      ap (λ v. v * 256 + getD (now s) (at + i) 0) (c .before .before .loop .inv .0) ∙ sym (unsigned-next i at (now s) inside)
+
+  next-fits : value * 256 + getD (now s) (at + i) 0 < 2 ^ 64
+  next-fits = rw next (unsigned-fits (now s) (λ k. c .shared-slice-known .given k .fits) at (i + 1) (omega arith) (omega arith))
 
 mul-value : tie.Need-mul-value Inv-loop μ-loop
 mul-value c = omega (arith, next-fits c)
@@ -69,18 +66,5 @@ returns c =
     l .inv .0 ∙ ap (λ n. unsigned n (c .before .before .args .at) (now (c .before .before .args .s))) all
 
 pub number-spec : {M : Type 1} → statement M
-number-spec =
-    tie.close
-    (tie.spec
-    Inv-loop
-    μ-loop
-    loop-holds
-    add-byte
-    shared-slice-read-byte
-    cast-byte
-    mul-value
-    add-value
-    add-i
-    loop-less
-    loop-again
-    returns)
+number-spec = tie.close (tie.spec
+    Inv-loop μ-loop loop-holds add-byte shared-slice-read-byte cast-byte mul-value add-value add-i loop-less loop-again returns)

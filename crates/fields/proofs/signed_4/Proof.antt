@@ -1,5 +1,4 @@
 -- `fields::signed_4` meets its contract: a value that was read has four bytes, so that it is below 2^32.
--- Assumes nothing.
 use mathlib.Core.Path.{_≡_, refl, sym, ap, _∙_}
 use Prim.Native.Nat.{_+_, _≤_, _<_, _^_}
 use native.Mathlib.Omega.{arith}
@@ -82,15 +81,4 @@ returns-3 c =
     ∙ sym (signed-value (a .at) (now (a .s)) (was-read (c .before) .0))
 
 pub signed-4-spec : {M : Type 1} → statement M
-signed-4-spec =
-    tie.close
-    (tie.spec
-    unsigned-4-requires
-    enum-known-v
-    enum-told
-    returns
-    cast-t7
-    cast-t8
-    sub-t9
-    returns-2
-    returns-3)
+signed-4-spec = tie.close (tie.spec unsigned-4-requires enum-known-v enum-told returns cast-t7 cast-t8 sub-t9 returns-2 returns-3)

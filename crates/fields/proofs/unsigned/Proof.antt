@@ -1,5 +1,4 @@
 -- `fields::unsigned` meets its contract: the tests that led to each answer say whether the field ends inside the string.
--- Assumes nothing.
 use mathlib.Core.Path.{sym, ap, _∙_}
 use native.Mathlib.Omega.{arith}
 use denote.Ref.{now}

@@ -1,16 +1,16 @@
--- `figures::figures_in` meets its contract: each call's array agrees with the definition, and so do the figures. Assumes nothing.
+-- `figures::figures_in` meets its contract: each call's array agrees with the definition, and so do the figures.
 use Prim.Native.Nat.{ℕ}
-use mathlib.Core.Path.{_≡_, refl, sym, subst}
+use mathlib.Core.Path.{_≡_, sym, subst}
 use mathlib.Core.List.{List}
+use lib.IntN.{ℤ}
 use denote.Ref.{now}
 use Rattle.definitions.specs.Layout.{lastYear, closeness}
 use Rattle.definitions.specs.Matrix.{figuresOf as figuresOfFile}
 use Rattle.chain.specs.Arrays.{figuresAt, figuresOf}
-use Rattle.figures.specs.Reading.{PriorMeans}
-use Rattle.figures.specs.Weights.{Owns, OwnWeights, Shares, SharesOf}
+use Rattle.figures.specs.Weights.{Owns, Shares}
 use Rattle.figures.specs.Entries.{OfMatrix, MatrixOf}
-use Rattle.figures.specs.Sums.{OfRatios, RatioSums, OfTargets, Targets}
-use Rattle.figures.specs.Gathered.{file-adds, file-owns, file-shares, file-ratios, file-targets, file-matrix, gathered}
+use Rattle.figures.specs.Sums.{OfRatios, OfTargets, Targets}
+use Rattle.figures.specs.Gathered.{Arrays, OfFile, file-adds, file-owns, file-shares, file-ratios, file-targets, file-matrix, gathered}
 use borrow.Author.Needs.{needs}
 use Rattle.figures.proofs.figures_in.Statement.{statement}
 use Rattle.figures.proofs.figures_in.Tie as tie
@@ -50,10 +50,16 @@ means-of Q = Q .before .before .before
 abbrev sums-of : tie.After-right-hand-of → tie.After-ratio-sums
 sums-of T = T .before .before .before .before .before .before
 
--- what was gathered by the ratio sums
+-- what is read and made by the ratio sums
 module _ (Q : tie.After-ratio-sums) where
+  abbrev M : tie.After-prior-means
+  M = means-of Q
+
+  abbrev G : tie.After-logarithms
+  G = logs-of M
+
   abbrev S : tie.After-shares
-  S = shares-of (logs-of (means-of Q))
+  S = shares-of G
 
   abbrev R : tie.After-ratio-weights
   R = ratios-of S
@@ -66,6 +72,30 @@ module _ (Q : tie.After-ratio-sums) where
 
   abbrev Y : tie.After-last-year
   Y = year-of P
+
+  abbrev arrays : Arrays
+  arrays = record {
+    columns = P .before .column-weights .result;
+    priors = P .prior-weights .result;
+    weights = R .ratio-weights .result;
+    own = O .own-weights .result;
+    logs = G .logarithms .result;
+    means = M .prior-means .result;
+    sums = S .shares .result;
+    ratios = Q .ratio-sums .result;
+  }
+
+  of-file : OfFile (file Y) (lastYear (file Y)) arrays
+  of-file = subst (λ n. OfFile (file Y) n arrays) (year Y) (record {
+    columns-are = P .before .column-weights .ensures;
+    priors-are = P .prior-weights .ensures;
+    weights-are = R .ratio-weights .ensures;
+    own-are = O .own-weights .ensures;
+    logs-are = G .logarithms .ensures;
+    means-are = M .prior-means .ensures;
+    sums-are = S .shares .ensures;
+    ratios-are = Q .ratio-sums .ensures;
+  })
 
 last-year-requires : tie.Need-last-year-requires
 last-year-requires c κs = search needs
@@ -80,7 +110,8 @@ own-weights-requires : tie.Need-own-weights-requires
 own-weights-requires c κs =
     let P = c .before .before in
     let Y = year-of P in
-    subst (Owns (P .before .column-weights .result) (P .prior-weights .result)) (sym (year Y)) (file-owns (file Y) (s Y .pre) (P .before .column-weights .ensures) (P .prior-weights .ensures))
+    let owns = file-owns (file Y) (s Y .pre) (P .before .column-weights .ensures) (P .prior-weights .ensures) in
+    subst (Owns (P .before .column-weights .result) (P .prior-weights .result)) (sym (year Y)) owns
 
 ratio-weights-requires : tie.Need-ratio-weights-requires
 ratio-weights-requires c κs = let Y = year-of (priors-of c) in file-adds (file Y) (s Y .pre)
@@ -103,24 +134,21 @@ ratio-sums-requires c κs =
     let G = logs-of M in
     let R = ratios-of (shares-of G) in
     let Y = year-of (priors-of (own-of R)) in
-    subst (OfRatios (R .ratio-weights .result) (G .logarithms .result)) (sym (year Y)) (file-ratios (file Y) (s Y .pre) (R .ratio-weights .ensures) (G .logarithms .ensures))
+    let of-ratios = file-ratios (file Y) (s Y .pre) (R .ratio-weights .ensures) (G .logarithms .ensures) in
+    subst (OfRatios (R .ratio-weights .result) (G .logarithms .result)) (sym (year Y)) of-ratios
 
 right-hand-of-requires : tie.Need-right-hand-of-requires
 right-hand-of-requires c κs =
     let Q = c .before .before .before .before .before in
-    let M = means-of Q in
-    let G = logs-of M in
-    subst (OfTargets (P Q .prior-weights .result) (M .prior-means .result) (P Q .before .column-weights .result) (G .logarithms .result) (Q .ratio-sums .result)) (sym (year (Y Q)))
-    (file-targets (file (Y Q)) (s (Y Q) .pre) (P Q .before .column-weights .ensures) (P Q .prior-weights .ensures) (G .logarithms .ensures) (M .prior-means .ensures) (R Q .ratio-weights .ensures)
-    (subst (λ n. RatioSums (R Q .ratio-weights .result) (G .logarithms .result) n (Q .ratio-sums .result)) (year (Y Q)) (Q .ratio-sums .ensures)))
+    let a = arrays Q in
+    subst (OfTargets (a .priors) (a .means) (a .columns) (a .logs) (a .ratios)) (sym (year (Y Q)))
+    (file-targets (file (Y Q)) (s (Y Q) .pre) (of-file Q))
 
 fill-matrix-requires : tie.Need-fill-matrix-requires
 fill-matrix-requires c κs =
     let Q = sums-of (c .before .before .before) in
-    subst (OfMatrix (O Q .own-weights .result) (S Q .shares .result)) (sym (year (Y Q)))
-    (file-matrix (file (Y Q)) (s (Y Q) .pre) (P Q .before .column-weights .ensures) (P Q .prior-weights .ensures)
-    (subst (λ n. OwnWeights (P Q .before .column-weights .result) (P Q .prior-weights .result) n (O Q .own-weights .result)) (year (Y Q)) (O Q .own-weights .ensures))
-    (R Q .ratio-weights .ensures) (subst (λ n. SharesOf (R Q .ratio-weights .result) n (S Q .shares .result)) (year (Y Q)) (S Q .shares .ensures)))
+    let a = arrays Q in
+    subst (OfMatrix (a .own) (a .sums)) (sym (year (Y Q))) (file-matrix (file (Y Q)) (s (Y Q) .pre) (of-file Q))
 
 -- what was gathered by the end
 module _ (A : tie.After-fill-matrix) where
@@ -130,38 +158,24 @@ module _ (A : tie.After-fill-matrix) where
   abbrev Q : tie.After-ratio-sums
   Q = sums-of T
 
-  means-are : PriorMeans (file (Y Q)) (means-of Q .prior-means .result)
-  means-are = means-of Q .prior-means .ensures
+  abbrev bytes : List ℕ
+  bytes = file (Y Q)
 
-  figures-are : figuresOf (figuresAt (lastYear (file (Y Q))) (closeness (file (Y Q))) (O Q .own-weights .result) (A .fill-matrix .last .0) (T .right-hand-of .result)) ≡ figuresOfFile (file (Y Q))
+  abbrev filled : List ℤ
+  filled = A .fill-matrix .last .0
+
+  figures-are : figuresOf (figuresAt (lastYear bytes) (closeness bytes) (arrays Q .own) filled (T .right-hand-of .result)) ≡ figuresOfFile bytes
   figures-are =
-      let M = means-of Q in
-      let G = logs-of M in
+      let a = arrays Q in
       let e = year (Y Q) in
-      gathered (file (Y Q)) (s (Y Q) .pre) _ refl refl (P Q .before .column-weights .ensures) (P Q .prior-weights .ensures)
-      (subst (λ n. OwnWeights (P Q .before .column-weights .result) (P Q .prior-weights .result) n (O Q .own-weights .result)) e (O Q .own-weights .ensures))
-      (R Q .ratio-weights .ensures) (subst (λ n. SharesOf (R Q .ratio-weights .result) n (S Q .shares .result)) e (S Q .shares .ensures))
-      (G .logarithms .ensures) (M .prior-means .ensures)
-      (subst (λ n. RatioSums (R Q .ratio-weights .result) (G .logarithms .result) n (Q .ratio-sums .result)) e (Q .ratio-sums .ensures))
-      (subst (λ n. Targets (P Q .prior-weights .result) (M .prior-means .result) (P Q .before .column-weights .result) (G .logarithms .result) (Q .ratio-sums .result) n (T .right-hand-of .result)) e (T .right-hand-of .ensures))
-      (subst (λ n. MatrixOf (O Q .own-weights .result) (S Q .shares .result) n (A .fill-matrix .last .0)) e (A .fill-matrix .ensures))
+      gathered bytes (s (Y Q) .pre) (of-file Q)
+      (subst (λ n. Targets (a .priors) (a .means) (a .columns) (a .logs) (a .ratios) n (T .right-hand-of .result)) e (T .right-hand-of .ensures))
+      (subst (λ n. MatrixOf (a .own) (a .sums) n filled) e (A .fill-matrix .ensures))
 
 returns : tie.Need-returns
-returns c = (figures-are c, means-are c)
+returns c = (figures-are c, of-file (Q c) .means-are)
 
 pub figures-in-spec : {M : Type 1} → statement M
-figures-in-spec =
-    tie.close
-    (tie.spec
-    last-year-requires
-    column-weights-requires
-    prior-weights-requires
-    own-weights-requires
-    ratio-weights-requires
-    shares-requires
-    logarithms-requires
-    prior-means-requires
-    ratio-sums-requires
-    right-hand-of-requires
-    fill-matrix-requires
-    returns)
+figures-in-spec = tie.close (tie.spec
+    last-year-requires column-weights-requires prior-weights-requires own-weights-requires ratio-weights-requires shares-requires
+    logarithms-requires prior-means-requires ratio-sums-requires right-hand-of-requires fill-matrix-requires returns)

@@ -1,4 +1,4 @@
--- The lines of the mean, one behind the other, are those of the record that `read` left. Assumes nothing.
+-- The lines of the mean, one behind the other, are those of the record that `read` left.
 use mathlib.Core.Path.{sym, ap, _∙_}
 use Rattle.session.specs.State.{stateOf}
 use Rattle.session.specs.Calls.{ofRead}
@@ -26,9 +26,11 @@ same-length c = search needs
 
 returns : tie.Need-returns
 returns c =
-    let a = c .before .before .before .before .before .before .before .before .before .before .before .args in
-    let reading = c .before .before .before .before .before .before .before .before .read in
-    in-words (read-refused (a .last) (a .total) (stateOf (a .s)) _ _ (sym (ap ofRead (c .before .before .before .before .before .answer .given .1)) ∙ reading .ensures .answer)) (c .before .before .put-refusal .ensures)
+    let told = c .before .before .before .before .before in
+    let read-by = told .before .before .before in
+    let a = read-by .before .before .before .args in
+    let answered = sym (ap ofRead (told .answer .given .1)) ∙ read-by .read .ensures .answer in
+    in-words (read-refused (a .last) (a .total) (stateOf (a .s)) _ _ answered) (c .before .before .put-refusal .ensures)
 
 enum-told : tie.Need-enum-told
 enum-told c = search needs
@@ -74,15 +76,26 @@ same-length-2 c = search needs
 
 returns-2 : tie.Need-returns-2
 returns-2 c =
-    let a = c .before .before .before .before .before .before .before .before .before .before .before .before .before .before .before .before .before .before .before .before .before .before .before .before .before .before .before .before .args in
-    let reading = c .before .before .before .before .before .before .before .before .before .before .before .before .before .before .before .before .before .before .before .before .before .before .before .before .before .read in
-    let headed = c .before .before .before .before .before .before .before .before .before .before .before .before .before .before .before .before .before .before .before .put-count in
-    let counted = c .before .before .before .before .before .before .before .before .before .before .before .before .before .before .put-count2 in
-    let listed = c .before .before .before .before .before .before .before .before .put-parts in
+    let listed-by = c .before .before .before .before .before .before .before .before in
+    let counted-by = listed-by .before .before .before .before .before .before in
+    let headed-by = counted-by .before .before .before .before .before in
+    let told = headed-by .before .before .before in
+    let read-by = told .before .before .before in
+    let a = read-by .before .before .before .args in
+    let headed = headed-by .put-count in
+    let counted = counted-by .put-count2 in
+    let listed = listed-by .put-parts in
     let same₁ = headed .kept .0 in
     let same₂ = counted .kept .0 ∙ same₁ in
-    in-words (ap (meanLines (a .last) (a .total)) (reading .ensures .buffer) ∙ read-written (a .last) (a .total) (stateOf (a .s)) (sym (ap ofRead (c .before .before .before .before .before .before .before .before .before .before .before .before .before .before .before .before .before .before .before .before .before .before .enum-told .given .1)) ∙ reading .ensures .answer))
-    (both (both (both (headed .ensures) same₁ (counted .ensures)) same₂ (listed .ensures)) (listed .kept .0 ∙ same₂) (c .before .before .put-parts2 .ensures))
+    let same₃ = listed .kept .0 ∙ same₂ in
+    let answered = sym (ap ofRead (told .enum-told .given .1)) ∙ read-by .read .ensures .answer in
+    in-words
+    (ap (meanLines (a .last) (a .total)) (read-by .read .ensures .buffer) ∙ read-written (a .last) (a .total) (stateOf (a .s)) answered)
+    (both (both (both (headed .ensures) same₁ (counted .ensures)) same₂ (listed .ensures)) same₃ (c .before .before .put-parts2 .ensures))
 
 pub list-mean-spec : {M : Type 1} → statement M
-list-mean-spec = tie.close (tie.spec slice-aggregate-read read-requires enum-known-answer put-refusal-requires same-length returns enum-told slice-aggregate-put-count put-count-requires slice-aggregate-put-count-2 put-count-requires-2 slice-aggregate-put-parts slice-aggregate-put-parts-2 add-put-parts put-parts-requires slice-aggregate-put-parts-3 slice-aggregate-put-parts-4 add-put-parts-2 put-parts-requires-2 same-length-2 returns-2)
+list-mean-spec = tie.close (tie.spec
+    slice-aggregate-read read-requires enum-known-answer put-refusal-requires same-length returns enum-told
+    slice-aggregate-put-count put-count-requires slice-aggregate-put-count-2 put-count-requires-2 slice-aggregate-put-parts
+    slice-aggregate-put-parts-2 add-put-parts put-parts-requires slice-aggregate-put-parts-3 slice-aggregate-put-parts-4
+    add-put-parts-2 put-parts-requires-2 same-length-2 returns-2)

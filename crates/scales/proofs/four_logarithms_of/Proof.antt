@@ -1,5 +1,5 @@
 -- `scales::four_logarithms_of` meets its contract. The loop's invariant: so many squarings of each are run. The measure is how many
--- are left. Assumes nothing.
+-- are left.
 use Prim.Native.Nat.{_-_}
 use native.Mathlib.Omega.{arith}
 use Rattle.scales.proofs.Squarings.{After, after-none, after-may, after-next, after-fits, after-ticks}
@@ -26,8 +26,12 @@ start-requires-4 : tie.Need-start-requires-4 Inv-loop μ-loop
 start-requires-4 c κs = tt
 
 loop-holds : tie.Need-loop-holds Inv-loop μ-loop
-loop-holds c =
-    (after-none (c .before .before .before .start .ensures), after-none (c .before .before .start2 .ensures), after-none (c .before .start3 .ensures), after-none (c .start4 .ensures))
+loop-holds c = (
+  after-none (c .before .before .before .start .ensures),
+  after-none (c .before .before .start2 .ensures),
+  after-none (c .before .start3 .ensures),
+  after-none (c .start4 .ensures),
+)
 
 squared-requires : tie.Need-squared-requires Inv-loop μ-loop
 squared-requires c κs = after-may (c .before .loop .inv .0)
@@ -80,25 +84,6 @@ returns c =
     }
 
 pub four-logarithms-of-spec : {M : Type 1} → statement M
-four-logarithms-of-spec =
-    tie.close
-    (tie.spec
-    Inv-loop
-    μ-loop
-    start-requires
-    start-requires-2
-    start-requires-3
-    start-requires-4
-    loop-holds
-    squared-requires
-    squared-requires-2
-    squared-requires-3
-    squared-requires-4
-    add-i
-    loop-less
-    loop-again
-    cast-t11
-    cast-t13
-    cast-t15
-    cast-t17
-    returns)
+four-logarithms-of-spec = tie.close (tie.spec
+    Inv-loop μ-loop start-requires start-requires-2 start-requires-3 start-requires-4 loop-holds squared-requires squared-requires-2
+    squared-requires-3 squared-requires-4 add-i loop-less loop-again cast-t11 cast-t13 cast-t15 cast-t17 returns)

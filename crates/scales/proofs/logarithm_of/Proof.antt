@@ -1,5 +1,4 @@
 -- `scales::logarithm_of` meets its contract. The loop's invariant: so many squarings are run. The measure is how many are left.
--- Assumes nothing.
 use Prim.Native.Nat.{_-_}
 use native.Mathlib.Omega.{arith}
 use Rattle.scales.proofs.Squarings.{After, after-none, after-may, after-next, after-fits, after-ticks}
@@ -39,16 +38,5 @@ returns c =
     after-ticks (l .loop .inv) (c .before .loop-test .left) (l .before .start .ensures)
 
 pub logarithm-of-spec : {M : Type 1} → statement M
-logarithm-of-spec =
-    tie.close
-    (tie.spec
-    Inv-loop
-    μ-loop
-    start-requires
-    loop-holds
-    squared-requires
-    add-i
-    loop-less
-    loop-again
-    cast-t5
-    returns)
+logarithm-of-spec = tie.close (tie.spec
+    Inv-loop μ-loop start-requires loop-holds squared-requires add-i loop-less loop-again cast-t5 returns)

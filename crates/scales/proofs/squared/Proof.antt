@@ -1,5 +1,4 @@
 -- `scales::squared` meets its contract: the square has 64 bits, and its highest bit is the definition's test.
--- Assumes nothing.
 use borrow.Author.Needs.{needs}
 use native.Mathlib.Omega.{arith}
 use mathlib.Core.Path.{refl, ap}

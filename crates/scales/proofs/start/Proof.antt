@@ -1,6 +1,5 @@
 -- `scales::start` meets its contract: the highest one bit's place is 63 less the leading zeros, so that the shift up loses no bit,
 -- and y is the definition's whichever way that shifts the amount.
--- Assumes nothing.
 use native.Mathlib.Omega.{arith}
 use mathlib.Core.Path.{refl, ap, _∙_}
 use Prim.Native.Nat.{_-_, _/_, _^_, _≤_}

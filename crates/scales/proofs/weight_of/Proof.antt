@@ -1,5 +1,4 @@
 -- `scales::weight_of` meets its contract: above 2^47 the dividend is less than the divisor, and below it neither overflows.
--- Assumes nothing.
 use borrow.Author.Needs.{needs}
 use mathlib.Core.Path.{sym, ap}
 use native.Mathlib.Nat.{div-eq-of-lt}

@@ -1,4 +1,4 @@
--- A digit is its glyph, by the same test. Assumes nothing.
+-- A digit is its glyph, by the same test.
 use borrow.Author.Needs.{needs}
 use borrow.Author.Tests.{lt-ltb, le-ltb}
 use Rattle.calls.proofs.printing.digit.Statement.{statement}

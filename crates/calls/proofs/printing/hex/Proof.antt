@@ -1,5 +1,5 @@
--- `hex` stays in its text, and where there is room the text is the bytes' digits. The invariant: the text is as long as it was, and its front is the digits
--- of the bytes passed. Assumes nothing.
+-- `hex` stays in its text, and where there is room the text is the bytes' digits. The invariant: the text is as long as it was, and
+-- its front is the digits of the bytes passed.
 use Prim.Native.Nat.{_*_, _≤_, _-_}
 use mathlib.Core.Path.{_≡_, refl, ap, _∙_}
 use native.Mathlib.Omega.{arith}
@@ -12,7 +12,8 @@ use Rattle.calls.proofs.printing.hex.Statement.{statement}
 use Rattle.calls.proofs.printing.hex.Tie as tie
 
 abbrev Inv-loop : tie.InvT-loop
-Inv-loop bytes text₀ i₀ end₀ text i end = (length text ≡ length text₀) × (end ≤ length text₀) × (i ≤ length bytes) × (end ≡ 2 * i) × (take end text ≡ hexOf (take i bytes))
+Inv-loop bytes text₀ i₀ end₀ text i end =
+    (length text ≡ length text₀) × (end ≤ length text₀) × (i ≤ length bytes) × (end ≡ 2 * i) × (take end text ≡ hexOf (take i bytes))
 
 abbrev μ-loop : tie.MeasureT-loop
 μ-loop bytes text₀ i₀ end₀ text i end = length bytes - i
@@ -74,4 +75,6 @@ returns-2 : tie.Need-returns-2 Inv-loop μ-loop
 returns-2 c = (counts _ _ (omega arith), λ room. c .before .loop .inv .4 ∙ ap hexOf (take-all _ _ (c .loop-test .left)))
 
 pub hex-spec : {M : Type 1} → statement M
-hex-spec = tie.close (tie.spec Inv-loop μ-loop loop-holds sub-if1 same-length returns shared-slice-read-byte digit-requires slice-write-text digit-requires-2 add-text slice-write-text-2 add-end add-i loop-less loop-again same-length-2 returns-2)
+hex-spec = tie.close (tie.spec
+    Inv-loop μ-loop loop-holds sub-if1 same-length returns shared-slice-read-byte digit-requires slice-write-text digit-requires-2
+    add-text slice-write-text-2 add-end add-i loop-less loop-again same-length-2 returns-2)

@@ -1,4 +1,4 @@
--- A length that `read_length` gives counts bytes of the buffer. Assumes nothing.
+-- A length that `read_length` gives counts bytes of the buffer.
 use native.Mathlib.Omega.{arith}
 use borrow.Author.Needs.{needs}
 use Rattle.io.proofs.Counting.{counts}
@@ -30,4 +30,5 @@ returns-3 : tie.Need-returns-3
 returns-3 c = counts _ _ (omega arith)
 
 pub read-length-spec : {M : Type 1} → statement M
-read-length-spec = tie.close (tie.spec read-number-requires enum-known-n enum-told wrong-requires returns wrong-requires-2 returns-2 returns-3)
+read-length-spec = tie.close (tie.spec
+    read-number-requires enum-known-n enum-told wrong-requires returns wrong-requires-2 returns-2 returns-3)

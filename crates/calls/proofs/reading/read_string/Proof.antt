@@ -1,4 +1,4 @@
--- The length that `read_string` gives counts bytes of the buffer as it is left, which is as long as it was. Assumes nothing.
+-- The length that `read_string` gives counts bytes of the buffer as it is left, which is as long as it was.
 use native.Mathlib.Omega.{arith}
 use borrow.Author.Needs.{needs}
 use Rattle.io.proofs.Counting.{counts}
@@ -39,4 +39,6 @@ returns-3 : tie.Need-returns-3
 returns-3 c = counts _ _ (omega (arith, same-length-3 c))
 
 pub read-string-spec : {M : Type 1} → statement M
-read-string-spec = tie.close (tie.spec read-length-requires same-length returns slice-relend-prefix-read-full slice-aggregate-read-full read-full-requires wrong-requires same-length-2 returns-2 same-length-3 returns-3)
+read-string-spec = tie.close (tie.spec
+    read-length-requires same-length returns slice-relend-prefix-read-full slice-aggregate-read-full read-full-requires
+    wrong-requires same-length-2 returns-2 same-length-3 returns-3)

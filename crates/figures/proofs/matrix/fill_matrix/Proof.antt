@@ -1,4 +1,4 @@
--- `figures::matrix::fill_matrix` meets its contract. The loop's invariant: the rows passed are filled. Assumes nothing.
+-- `figures::matrix::fill_matrix` meets its contract. The loop's invariant: the rows passed are filled.
 use Prim.Native.Nat.{_-_, _≤_}
 use native.Mathlib.Omega.{arith}
 use lib.IntN.{pos}
@@ -50,17 +50,5 @@ returns : tie.Need-returns Inv-loop μ-loop
 returns c = record { whole = rows-to (omega arith) (c .before .loop .inv .1) }
 
 pub fill-matrix-spec : {M : Type 1} → statement M
-fill-matrix-spec =
-    tie.close
-    (tie.spec
-    Inv-loop
-    μ-loop
-    mul-count
-    add-count
-    turned-shares-requires
-    loop-holds
-    fill-row-requires
-    add-k
-    loop-less
-    loop-again
-    returns)
+fill-matrix-spec = tie.close (tie.spec
+    Inv-loop μ-loop mul-count add-count turned-shares-requires loop-holds fill-row-requires add-k loop-less loop-again returns)

@@ -1,8 +1,9 @@
 -- `figures::matrix::fill_row` meets its contract: the row's shares by its kind, and the own weight on the diagonal, where
--- the sum does not wrap. Assumes nothing.
+-- the sum does not wrap.
 use Prim.Native.Nat.{ℕ, _+_, _*_, _^_, _<_, min}
 use mathlib.Core.Path.{_≡_, refl, sym, ap, ap₂, subst, _∙_}
 use mathlib.Core.Logic.{⊎-elim}
+use mathlib.Core.List.{List}
 use native.Mathlib.Omega.{arith}
 use lib.IntN.{ℤ, pos, natAbs, _+ℤ_}
 use lib.ListN.{set}
@@ -52,11 +53,17 @@ module _ (c : tie.After-value) where
   abbrev own : ℕ
   own = at (now (s .args .own)) k
 
-  filled : Stretch (parts J) (31 * k) shared (now (s .args .matrix)) (c .before .if1 .matrix)
+  -- this row, from the matrix as it was
+  abbrev Row : (ℕ → ℤ) → List ℤ → Type 0
+  Row f m = Stretch (parts J) (31 * k) f (now (s .args .matrix)) m
+
+  filled : Row shared (c .before .if1 .matrix)
   filled =
+      let turned = s .pre .of-turned in
+      let row = s .pre .of-row .row in
       ⊎-elim
-      (λ w. subst (λ m. Stretch (parts J) (31 * k) shared (now (s .args .matrix)) m) (sym (w .3)) (stretch-as (w .2 .ensures) (phi-row (s .pre .of-turned) k (s .pre .of-row .row) (w .0 .taken))))
-      (λ w. subst (λ m. Stretch (parts J) (31 * k) shared (now (s .args .matrix)) m) (sym (w .3)) (stretch-as (w .2 .ensures) (psi-row (s .pre .of-turned) k (s .pre .of-row .row) (w .0 .left))))
+      (λ w. subst (Row shared) (sym (w .3)) (stretch-as (w .2 .ensures) (phi-row turned k row (w .0 .taken))))
+      (λ w. subst (Row shared) (sym (w .3)) (stretch-as (w .2 .ensures) (psi-row turned k row (w .0 .left))))
       (c .before .if1 .came)
 
   abbrev diagonal : ℤ
@@ -115,28 +122,16 @@ returns c =
     let v = c .before in
     let own-of = now (s v .args .own) in
     let shares-of = now (s v .args .shares) in
+    let value = stored (toZ w64 (own v) +ℤ stored (diagonal v)) in
     let place : 31 * k v + k v ≡ 32 * k v = omega arith in
     record {
-      whole = subst (λ i. Stretch (parts (J v)) (31 * k v) (entryOf own-of shares-of (J v) (k v)) (now (s v .args .matrix)) (set (v .before .if1 .matrix) i (stored (toZ w64 (own v) +ℤ stored (diagonal v))))) place
+      whole = subst (λ i. Row v (entryOf own-of shares-of (J v) (k v)) (set (v .before .if1 .matrix) i value)) place
           (stretch-put (filled v) (omega (arith, s v .pre .of-row .row, s v .pre .of-row .of-matrix .few))
           (kept w64 (whole v) (whole-small v) ∙ ap (λ z. pos (own v) +ℤ z) (diagonal-is v) ∙ entry-on own-of shares-of (J v) (k v))
           (λ l below apart. (below, entry-off own-of shares-of (J v) (k v) l apart)));
     }
 
 pub fill-row-spec : {M : Type 1} → statement M
-fill-row-spec =
-    tie.close
-    (tie.spec
-    fill-shares-requires
-    fill-shares-requires-2
-    mul-value
-    element-copy-out-value
-    cast-value
-    mul-value-2
-    mul-value-3
-    element-copy-out-value-2
-    add-value
-    mul-value-4
-    mul-value-5
-    element-set-from-value
-    returns)
+fill-row-spec = tie.close (tie.spec
+    fill-shares-requires fill-shares-requires-2 mul-value element-copy-out-value cast-value mul-value-2 mul-value-3
+    element-copy-out-value-2 add-value mul-value-4 mul-value-5 element-set-from-value returns)

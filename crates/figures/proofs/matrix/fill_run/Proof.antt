@@ -1,5 +1,5 @@
 -- `figures::matrix::fill_run` meets its contract. The loop's invariant: the cells passed are filled, and those before the run are as
--- they were. Assumes nothing.
+-- they were.
 use Prim.Native.Nat.{_+_, _-_, _≤_, _<_}
 use mathlib.Core.Path.{ap, _∙_}
 use native.Mathlib.Omega.{arith}
@@ -68,20 +68,6 @@ returns : tie.Need-returns Inv-loop μ-loop
 returns c = stretch-to (omega arith) (c .before .loop .inv .1)
 
 pub fill-run-spec : {M : Type 1} → statement M
-fill-run-spec =
-    tie.close
-    (tie.spec
-    Inv-loop
-    μ-loop
-    loop-holds
-    add-smaller
-    smaller-requires
-    mul-value
-    element-copy-out-value
-    add-value
-    mul-value-2
-    element-set-from-value
-    add-n
-    loop-less
-    loop-again
-    returns)
+fill-run-spec = tie.close (tie.spec
+    Inv-loop μ-loop loop-holds add-smaller smaller-requires mul-value element-copy-out-value add-value mul-value-2
+    element-set-from-value add-n loop-less loop-again returns)

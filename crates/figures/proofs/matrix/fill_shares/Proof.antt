@@ -1,4 +1,4 @@
--- `figures::matrix::fill_shares` meets its contract: two runs, one behind the other, are the row. Assumes nothing.
+-- `figures::matrix::fill_shares` meets its contract: two runs, one behind the other, are the row.
 use Prim.Native.Nat.{_≤_}
 use native.Mathlib.Omega.{arith}
 use denote.Ref.{now}
@@ -60,14 +60,5 @@ returns c =
     (λ l from below. run-psi (now (a .phis)) (now (a .psis)) (a .last) (a .k) (r .rank-of .result) e l (omega arith)))
 
 pub fill-shares-spec : {M : Type 1} → statement M
-fill-shares-spec =
-    tie.close
-    (tie.spec
-    mul-row
-    rank-of-requires
-    add-fill-run
-    fill-run-requires
-    add-fill-run-2
-    add-fill-run-3
-    fill-run-requires-2
-    returns)
+fill-shares-spec = tie.close (tie.spec
+    mul-row rank-of-requires add-fill-run fill-run-requires add-fill-run-2 add-fill-run-3 fill-run-requires-2 returns)

@@ -1,4 +1,4 @@
--- `figures::matrix::rank_of` meets its contract: an index up to J is a Φ, and one above is a Ψ. Assumes nothing.
+-- `figures::matrix::rank_of` meets its contract: an index up to J is a Φ, and one above is a Ψ.
 use mathlib.Core.Path.{sym}
 use borrow.Author.Needs.{needs}
 use Rattle.figures.specs.EntryLaws.{rank-phi, rank-psi}

@@ -1,4 +1,4 @@
--- `figures::matrix::turned_shares` meets its contract. The loop's invariant: the sums passed are turned. Assumes nothing.
+-- `figures::matrix::turned_shares` meets its contract. The loop's invariant: the sums passed are turned.
 use Prim.Native.Nat.{_-_, _^_, _≤_, _<_}
 use mathlib.Core.Path.{_≡_, ap, _∙_}
 use mathlib.Core.List.{[], _∷_}
@@ -73,19 +73,6 @@ returns : tie.Need-returns Inv-loop μ-loop
 returns c = record { turns = λ n h. c .before .loop .inv .1 .front n (omega arith) }
 
 pub turned-shares-spec : {M : Type 1} → statement M
-turned-shares-spec =
-    tie.close
-    (tie.spec
-    Inv-loop
-    μ-loop
-    add-count
-    loop-holds
-    mul-value
-    element-copy-out-value
-    sub-value
-    mul-turned
-    array-set-from-turned
-    add-n
-    loop-less
-    loop-again
-    returns)
+turned-shares-spec = tie.close (tie.spec
+    Inv-loop μ-loop add-count loop-holds mul-value element-copy-out-value sub-value mul-turned array-set-from-turned add-n loop-less
+    loop-again returns)

@@ -1,4 +1,4 @@
--- `figures::reading::column_weights` meets its contract. The loop's invariant: the parts passed have the weights of their variances. Assumes nothing.
+-- `figures::reading::column_weights` meets its contract. The loop's invariant: the parts passed have the weights of their variances.
 use Prim.Native.Nat.{_-_, _≤_, _<_}
 use mathlib.Core.Path.{ap, _∙_}
 use native.Mathlib.Omega.{arith}
@@ -27,6 +27,9 @@ loop-holds c = (omega arith, filled-none 31 0 _)
 below : (c : tie.In-loop Inv-loop μ-loop) → c .before .loop .k < parts (lastYear (now (c .before .before .before .before .before .args .file)))
 below c = omega (arith, c .loop-test .taken, c .before .before .parts-of .ensures, c .before .before .before .last-year .ensures)
 
+room : (c : tie.In-loop Inv-loop μ-loop) → c .before .loop .k < 31
+room c = omega (arith, below c, c .before .before .before .before .before .pre .high)
+
 variance-of-requires : tie.Need-variance-of-requires Inv-loop μ-loop
 variance-of-requires c κs = (c .before .before .before .before .before .pre, below c)
 
@@ -34,10 +37,10 @@ weight-of-requires : tie.Need-weight-of-requires Inv-loop μ-loop
 weight-of-requires c κs = tt
 
 mul-weights : tie.Need-mul-weights Inv-loop μ-loop
-mul-weights c = let l = c .before .before in omega (arith, below l, l .before .before .before .before .before .pre .high)
+mul-weights c = omega (arith, room (c .before .before))
 
 array-write-weights : tie.Need-array-write-weights Inv-loop μ-loop
-array-write-weights c = let l = c .before .before in omega (arith, below l, l .before .before .before .before .before .pre .high)
+array-write-weights c = room (c .before .before)
 
 add-k : tie.Need-add-k Inv-loop μ-loop
 add-k c = omega arith
@@ -48,7 +51,7 @@ loop-less c = omega arith
 loop-again : tie.Need-loop-again Inv-loop μ-loop
 loop-again c =
     let l = c .before .before in
-    (omega arith, filled-next (l .before .loop .inv .1) (omega (arith, below l, l .before .before .before .before .before .pre .high)) (c .weight-of .ensures ∙ ap weight (c .before .variance-of .ensures)))
+    (omega arith, filled-next (l .before .loop .inv .1) (room l) (c .weight-of .ensures ∙ ap weight (c .before .variance-of .ensures)))
 
 returns : tie.Need-returns Inv-loop μ-loop
 returns c =
@@ -56,19 +59,6 @@ returns c =
     record { filled = filled-to (omega (arith, l .before .parts-of .ensures, l .before .before .last-year .ensures)) (l .loop .inv .1) }
 
 pub column-weights-spec : {M : Type 1} → statement M
-column-weights-spec =
-    tie.close
-    (tie.spec
-    Inv-loop
-    μ-loop
-    last-year-requires
-    parts-of-requires
-    loop-holds
-    variance-of-requires
-    weight-of-requires
-    mul-weights
-    array-write-weights
-    add-k
-    loop-less
-    loop-again
-    returns)
+column-weights-spec = tie.close (tie.spec
+    Inv-loop μ-loop last-year-requires parts-of-requires loop-holds variance-of-requires weight-of-requires mul-weights
+    array-write-weights add-k loop-less loop-again returns)

@@ -1,4 +1,4 @@
--- `figures::reading::four_cells` meets its contract: four cells inside the array, filled one after another. Assumes nothing.
+-- `figures::reading::four_cells` meets its contract: four cells inside the array, filled one after another.
 use Prim.Native.Nat.{ℕ, _+_, _^_, _≤_, _<_}
 use mathlib.Core.Path.{_≡_, ap, _∙_}
 use native.Mathlib.Omega.{arith}
@@ -94,26 +94,7 @@ returns c =
     (logged (told .1 .1 .1 .0 .1 .1 .0 .1) (four .fourth) (amounts .amount-of4 .ensures))
 
 pub four-cells-spec : {M : Type 1} → statement M
-four-cells-spec =
-    tie.close
-    (tie.spec
-    amount-of-requires
-    add-amount-of
-    amount-of-requires-2
-    add-amount-of-2
-    amount-of-requires-3
-    add-amount-of-3
-    amount-of-requires-4
-    four-logarithms-of-requires
-    mul-first
-    element-set-from-first
-    add-second
-    mul-second
-    element-set-from-second
-    add-third
-    mul-third
-    element-set-from-third
-    add-fourth
-    mul-fourth
-    element-set-from-fourth
-    returns)
+four-cells-spec = tie.close (tie.spec
+    amount-of-requires add-amount-of amount-of-requires-2 add-amount-of-2 amount-of-requires-3 add-amount-of-3 amount-of-requires-4
+    four-logarithms-of-requires mul-first element-set-from-first add-second mul-second element-set-from-second add-third mul-third
+    element-set-from-third add-fourth mul-fourth element-set-from-fourth returns)

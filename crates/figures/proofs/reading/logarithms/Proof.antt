@@ -1,5 +1,4 @@
 -- `figures::reading::logarithms` meets its contract. The loops' invariant: the cells passed have the logarithms of their amounts.
--- Assumes nothing.
 use Prim.Native.Nat.{_*_, _-_, _≤_, _<_}
 use mathlib.Core.Path.{_≡_, ap, _∙_}
 use native.Mathlib.Omega.{arith}
@@ -90,11 +89,10 @@ loop2-less c = omega arith
 
 loop2-again : tie.Need-loop2-again Inv-loop μ-loop Inv-loop2 μ-loop2
 loop2-again c =
-    let l = c .before .before .before in (
-      omega arith,
-      filled-next (l .before .loop2 .inv .1) (in-array l)
-          (same (c .before .logarithm-of .result .0) (c .struct-told .given .0 .1) ∙ c .before .logarithm-of .ensures ∙ ap (λ a. pos (logarithm a)) (c .before .before .amount-of .ensures)),
-    )
+    let l = c .before .before .before in
+    let log = c .before .logarithm-of .ensures ∙ ap (λ a. pos (logarithm a)) (c .before .before .amount-of .ensures) in
+    let kept = same (c .before .logarithm-of .result .0) (c .struct-told .given .0 .1) in
+    (omega arith, filled-next (l .before .loop2 .inv .1) (in-array l) (kept ∙ log))
 
 returns : tie.Need-returns Inv-loop μ-loop Inv-loop2 μ-loop2
 returns c =
@@ -102,28 +100,7 @@ returns c =
     record { filled = filled-to (omega (arith, count-is (l .before .before .before))) (l .loop2 .inv .1) }
 
 pub logarithms-spec : {M : Type 1} → statement M
-logarithms-spec =
-    tie.close
-    (tie.spec
-    Inv-loop
-    μ-loop
-    Inv-loop2
-    μ-loop2
-    last-year-requires
-    cells-of-requires
-    mul-count
-    loop-holds
-    add-loop
-    four-cells-requires
-    add-c
-    loop-less
-    loop-again
-    loop2-holds
-    amount-of-requires
-    logarithm-of-requires
-    mul-logs
-    array-set-from-logs
-    add-c-2
-    loop2-less
-    loop2-again
-    returns)
+logarithms-spec = tie.close (tie.spec
+    Inv-loop μ-loop Inv-loop2 μ-loop2 last-year-requires cells-of-requires mul-count loop-holds add-loop four-cells-requires add-c
+    loop-less loop-again loop2-holds amount-of-requires logarithm-of-requires mul-logs array-set-from-logs add-c-2 loop2-less
+    loop2-again returns)

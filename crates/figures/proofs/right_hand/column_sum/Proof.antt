@@ -1,4 +1,4 @@
--- `figures::right_hand::column_sum` meets its contract: Φ_0, another Φ and a Ψ each have their sum, over cells inside the two blocks. Assumes nothing.
+-- `figures::right_hand::column_sum` meets its contract: Φ_0, another Φ and a Ψ each have their sum, over cells inside the two blocks.
 use Prim.Native.Nat.{_+_, _-_}
 use mathlib.Core.Path.{sym, ap, ap₂, subst, subst₂, _∙_}
 use native.Mathlib.Omega.{arith}
@@ -15,7 +15,11 @@ start-sum-requires : tie.Need-start-sum-requires
 start-sum-requires c κs = search needs
 
 returns : tie.Need-returns
-returns c = let s = c .before .before in same (c .start-sum .result) (c .start-sum .ok) ∙ c .start-sum .ensures ∙ sym (column-start (now (s .args .logs)) (s .args .last) (s .args .k) (c .before .if1 .taken))
+returns c =
+    let a = c .before .before .args in
+    same (c .start-sum .result) (c .start-sum .ok)
+    ∙ c .start-sum .ensures
+    ∙ sym (column-start (now (a .logs)) (a .last) (a .k) (c .before .if1 .taken))
 
 observations-of-requires : tie.Need-observations-of-requires
 observations-of-requires c κs = search needs
@@ -26,13 +30,17 @@ sub-step-sum c = search needs
 step-sum-requires : tie.Need-step-sum-requires
 step-sum-requires c κs =
     let s = c .before .before .before in
-    subst (OfSteps (now (s .args .logs)) (s .args .last) (s .args .k - 1)) (sym (c .before .observations-of .ensures)) (steps-phi (now (s .args .logs)) (s .args .last) (s .args .k) (s .pre .logs-small) (c .before .before .if1 .left) (c .if2 .taken))
+    let a = s .args in
+    let steps = steps-phi (now (a .logs)) (a .last) (a .k) (s .pre .logs-small) (c .before .before .if1 .left) (c .if2 .taken) in
+    subst (OfSteps (now (a .logs)) (a .last) (a .k - 1)) (sym (c .before .observations-of .ensures)) steps
 
 returns-2 : tie.Need-returns-2
 returns-2 c =
-    let s = c .before .before .before .before in
-    same (c .step-sum .result) (c .step-sum .ok) ∙ c .step-sum .ensures ∙ ap (stepSum (now (s .args .logs)) (s .args .last) (s .args .k - 1)) (c .before .before .observations-of .ensures)
-    ∙ sym (column-phi (now (s .args .logs)) (s .args .last) (s .args .k) (c .before .before .before .if1 .left) (c .before .if2 .taken))
+    let a = c .before .before .before .before .args in
+    same (c .step-sum .result) (c .step-sum .ok)
+    ∙ c .step-sum .ensures
+    ∙ ap (stepSum (now (a .logs)) (a .last) (a .k - 1)) (c .before .before .observations-of .ensures)
+    ∙ sym (column-phi (now (a .logs)) (a .last) (a .k) (c .before .before .before .if1 .left) (c .before .if2 .taken))
 
 cells-of-requires : tie.Need-cells-of-requires
 cells-of-requires c κs = search needs
@@ -49,29 +57,22 @@ add-step-sum c = let s = c .before .before .before .before in omega (arith, c .c
 step-sum-requires-2 : tie.Need-step-sum-requires-2
 step-sum-requires-2 c κs =
     let s = c .before .before .before .before in
-    subst₂ (λ m n. OfSteps (now (s .args .logs)) (s .args .last) (m + (s .args .k - s .args .last - 1)) n) (sym (c .cells-of .ensures)) (sym (c .before .before .observations-of .ensures))
-    (steps-psi (now (s .args .logs)) (s .args .last) (s .args .k) (s .pre .logs-small) (c .before .if2 .left) (s .pre .below))
+    let a = s .args in
+    subst₂ (λ m n. OfSteps (now (a .logs)) (a .last) (m + (a .k - a .last - 1)) n)
+    (sym (c .cells-of .ensures)) (sym (c .before .before .observations-of .ensures))
+    (steps-psi (now (a .logs)) (a .last) (a .k) (s .pre .logs-small) (c .before .if2 .left) (s .pre .below))
 
 returns-3 : tie.Need-returns-3
 returns-3 c =
     let s = c .before .before .before .before .before in
-    same (c .step-sum2 .result) (c .step-sum2 .ok) ∙ c .step-sum2 .ensures
-    ∙ ap₂ (λ m n. stepSum (now (s .args .logs)) (s .args .last) (m + (s .args .k - s .args .last - 1)) n) (c .before .cells-of .ensures) (c .before .before .before .observations-of .ensures)
-    ∙ sym (column-psi (now (s .args .logs)) (s .args .last) (s .args .k) (c .before .before .if2 .left) (s .pre .below))
+    let a = s .args in
+    let counts = c .before .before .before .observations-of .ensures in
+    same (c .step-sum2 .result) (c .step-sum2 .ok)
+    ∙ c .step-sum2 .ensures
+    ∙ ap₂ (λ m n. stepSum (now (a .logs)) (a .last) (m + (a .k - a .last - 1)) n) (c .before .cells-of .ensures) counts
+    ∙ sym (column-psi (now (a .logs)) (a .last) (a .k) (c .before .before .if2 .left) (s .pre .below))
 
 pub column-sum-spec : {M : Type 1} → statement M
-column-sum-spec =
-    tie.close
-    (tie.spec
-    start-sum-requires
-    returns
-    observations-of-requires
-    sub-step-sum
-    step-sum-requires
-    returns-2
-    cells-of-requires
-    sub-step-sum-2
-    sub-step-sum-3
-    add-step-sum
-    step-sum-requires-2
-    returns-3)
+column-sum-spec = tie.close (tie.spec
+    start-sum-requires returns observations-of-requires sub-step-sum step-sum-requires returns-2 cells-of-requires sub-step-sum-2
+    sub-step-sum-3 add-step-sum step-sum-requires-2 returns-3)

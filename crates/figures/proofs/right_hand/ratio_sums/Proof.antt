@@ -1,29 +1,32 @@
--- `figures::right_hand::ratio_sums` meets its contract. The loop's invariant: the sums up to development year d are there, and `at` is the last cell of the accident year J − d. Assumes nothing.
+-- `figures::right_hand::ratio_sums` meets its contract. The loop's invariant: the sums up to development year d are there, and `at`
+-- is the last cell of the accident year J − d.
 use Prim.Native.Nat.{ℕ, _+_, _*_, _-_, _^_, _≤_, _<_}
 use mathlib.Core.Path.{_≡_, refl, sym, ap₂, _∙_}
+use mathlib.Core.List.{List}
 use native.Mathlib.Omega.{arith}
-use lib.IntN.{pos, natAbs, _+ℤ_, _-ℤ_, _*ℤ_}
+use lib.IntN.{ℤ, pos, natAbs, _+ℤ_, _-ℤ_, _*ℤ_}
 use denote.Ref.{now}
 use mir.Syntax.{w64}
-use mir.Val.{toZ, ofZ}
+use mir.Val.{toZ}
 use Rattle.integers.specs.Size.{fits, kept}
-use Rattle.integers.specs.Sum.{sum-next}
+use Rattle.integers.specs.Sum.{sum, sum-next}
 use Rattle.definitions.specs.Words.{part}
 use Rattle.definitions.specs.Layout.{cells}
-use Rattle.chain.specs.Bits.{read}
+use Rattle.chain.specs.Bits.{stored, read}
 use mir.Facts.{toZ-pos}
 use Rattle.integers.specs.Size.{natAbs-*-≤}
 use Rattle.figures.specs.Reading.{cells-few}
 use Rattle.figures.specs.Weights
 use Rattle.figures.specs.Weights.{Summed}
 use Rattle.figures.specs.WeightLaws.{summed-none, summed-next}
-use Rattle.figures.specs.Sums.{lastCell, ratioOf, ratioSum}
+use Rattle.figures.specs.Sums.{lastCell, ratioOf}
 use Rattle.figures.specs.SumLaws.{lastCell-first, lastCell-next, lastCell-below, difference-small, sum-small}
 use Rattle.figures.proofs.right_hand.ratio_sums.Statement.{statement}
 use Rattle.figures.proofs.right_hand.ratio_sums.Tie as tie
 
 abbrev Inv-loop : tie.InvT-loop
-Inv-loop weights logs last years cells sums₀ total₀ at₀ d₀ sums total at d = (d ≤ years) × (at ≡ lastCell last d) × Summed d (λ y. pos (Weights.at weights y) *ℤ ratioOf logs last y) (toZ w64 total) sums
+Inv-loop weights logs last years cells sums₀ total₀ at₀ d₀ sums total at d =
+    (d ≤ years) × (at ≡ lastCell last d) × Summed d (λ y. pos (Weights.at weights y) *ℤ ratioOf logs last y) (toZ w64 total) sums
 
 abbrev μ-loop : tie.MeasureT-loop
 μ-loop weights logs last years cells sums₀ total₀ at₀ d₀ sums total at d = years - d
@@ -51,50 +54,63 @@ module _ (c : tie.In-loop Inv-loop μ-loop) where
   abbrev cell : ℕ
   cell = c .before .before .cells-of .result
 
-  inside : at < cells (s .args .last)
-  inside = omega (arith, c .before .loop .inv .1, lastCell-below (s .args .last) d (omega (arith, c .loop-test .taken)))
+  abbrev J : ℕ
+  J = s .args .last
+
+  abbrev weight : ℕ → ℕ
+  weight = Weights.at (now (s .args .weights))
+
+  abbrev logs : List ℤ
+  logs = now (s .args .logs)
+
+  abbrev term : ℕ → ℤ
+  term y = pos (weight y) *ℤ ratioOf logs J y
+
+  inside : at < cells J
+  inside = omega (arith, c .before .loop .inv .1, lastCell-below J d (omega (arith, c .loop-test .taken)))
 
   in-array : cell + at < 272
-  in-array = omega (arith, inside, c .before .before .cells-of .ensures, cells-few (s .args .last) (s .pre .logs-small .few))
+  in-array = omega (arith, inside, c .before .before .cells-of .ensures, cells-few J (s .pre .logs-small .few))
 
-  weight-small : Weights.at (now (s .args .weights)) d ≤ 2 ^ 27
+  weight-small : weight d ≤ 2 ^ 27
   weight-small = s .pre .weights-small d (c .loop-test .taken)
 
-  log-at : (n : ℕ) → n < 2 * cells (s .args .last) → toZ w64 (ofZ w64 (part (now (s .args .logs)) n)) ≡ part (now (s .args .logs)) n
-  log-at n below = read (part (now (s .args .logs)) n) (omega (arith, s .pre .logs-small .small n below))
+  log-at : (n : ℕ) → n < 2 * cells J → stored (part logs n) ≡ part logs n
+  log-at n below = read (part logs n) (omega (arith, s .pre .logs-small .small n below))
 
-  ratio : toZ w64 (ofZ w64 (part (now (s .args .logs)) (cell + at))) -ℤ toZ w64 (ofZ w64 (part (now (s .args .logs)) at)) ≡ ratioOf (now (s .args .logs)) (s .args .last) d
+  -- the ratio as it is read
+  abbrev readRatio : ℤ
+  readRatio = stored (part logs (cell + at)) -ℤ stored (part logs at)
+
+  ratio : readRatio ≡ ratioOf logs J d
   ratio =
       ap₂ _-ℤ_ (log-at (cell + at) (omega (arith, inside, c .before .before .cells-of .ensures))) (log-at at (omega (arith, inside)))
-      ∙ ap₂ (λ m n. part (now (s .args .logs)) (m + n) -ℤ part (now (s .args .logs)) n) (c .before .before .cells-of .ensures) (c .before .loop .inv .1)
+      ∙ ap₂ (λ m n. part logs (m + n) -ℤ part logs n) (c .before .before .cells-of .ensures) (c .before .loop .inv .1)
 
-  ratios-small : (y : ℕ) → y ≤ s .args .last → natAbs (ratioOf (now (s .args .logs)) (s .args .last) y) ≤ 2 ^ 27
+  ratios-small : (y : ℕ) → y ≤ J → natAbs (ratioOf logs J y) ≤ 2 ^ 27
   ratios-small y few =
-      difference-small (now (s .args .logs)) (s .args .last) (cells (s .args .last) + lastCell (s .args .last) y) (lastCell (s .args .last) y) (s .pre .logs-small)
-      (omega (arith, lastCell-below (s .args .last) y few)) (omega (arith, lastCell-below (s .args .last) y few))
+      let below = lastCell-below J y few in
+      difference-small logs J (cells J + lastCell J y) (lastCell J y) (s .pre .logs-small) (omega arith) (omega arith)
 
-  ratio-small : natAbs (ratioOf (now (s .args .logs)) (s .args .last) d) < 2 ^ 63
+  ratio-small : natAbs (ratioOf logs J d) < 2 ^ 63
   ratio-small = omega (arith, ratios-small d (omega (arith, c .loop-test .taken)))
 
-  product : toZ w64 (Weights.at (now (s .args .weights)) d) *ℤ toZ w64 (ofZ w64 (toZ w64 (ofZ w64 (part (now (s .args .logs)) (cell + at))) -ℤ toZ w64 (ofZ w64 (part (now (s .args .logs)) at))))
-      ≡ pos (Weights.at (now (s .args .weights)) d) *ℤ ratioOf (now (s .args .logs)) (s .args .last) d
+  product : toZ w64 (weight d) *ℤ stored readRatio ≡ term d
   product = ap₂ _*ℤ_ (toZ-pos w64 (omega (arith, weight-small))) (kept w64 ratio ratio-small)
 
-  products-small : (y : ℕ) → y < s .args .last → natAbs (pos (Weights.at (now (s .args .weights)) y) *ℤ ratioOf (now (s .args .logs)) (s .args .last) y) ≤ 2 ^ 54
-  products-small y below = natAbs-*-≤ (pos (Weights.at (now (s .args .weights)) y)) (ratioOf (now (s .args .logs)) (s .args .last) y) (s .pre .weights-small y below) (ratios-small y (omega arith))
+  products-small : (y : ℕ) → y < J → natAbs (term y) ≤ 2 ^ 54
+  products-small y below = natAbs-*-≤ (pos (weight y)) (ratioOf logs J y) (s .pre .weights-small y below) (ratios-small y (omega arith))
 
-  product-small : natAbs (pos (Weights.at (now (s .args .weights)) d) *ℤ ratioOf (now (s .args .logs)) (s .args .last) d) < 2 ^ 63
+  product-small : natAbs (term d) < 2 ^ 63
   product-small = omega (arith, products-small d (c .loop-test .taken))
 
-  next : toZ w64 (c .before .loop .total)
-      +ℤ toZ w64 (ofZ w64 (toZ w64 (Weights.at (now (s .args .weights)) d) *ℤ toZ w64 (ofZ w64 (toZ w64 (ofZ w64 (part (now (s .args .logs)) (cell + at))) -ℤ toZ w64 (ofZ w64 (part (now (s .args .logs)) at))))))
-      ≡ ratioSum (now (s .args .weights)) (now (s .args .logs)) (s .args .last) (d + 1)
-  next = ap₂ _+ℤ_ (c .before .loop .inv .2 .at-hand) (kept w64 product product-small) ∙ sym (sum-next d (λ y. pos (Weights.at (now (s .args .weights)) y) *ℤ ratioOf (now (s .args .logs)) (s .args .last) y))
+  next : toZ w64 (c .before .loop .total) +ℤ stored (toZ w64 (weight d) *ℤ stored readRatio) ≡ sum (d + 1) term
+  next = ap₂ _+ℤ_ (c .before .loop .inv .2 .at-hand) (kept w64 product product-small) ∙ sym (sum-next d term)
 
-  next-small : natAbs (ratioSum (now (s .args .weights)) (now (s .args .logs)) (s .args .last) (d + 1)) < 2 ^ 63
+  next-small : natAbs (sum (d + 1) term) < 2 ^ 63
   next-small =
-      sum-small (d + 1) (λ y. pos (Weights.at (now (s .args .weights)) y) *ℤ ratioOf (now (s .args .logs)) (s .args .last) y) (omega (arith, c .loop-test .taken, s .pre .logs-small .few))
-      (λ y below. omega (arith, products-small y (omega (arith, c .loop-test .taken))))
+      let more = c .loop-test .taken in
+      sum-small (d + 1) term (omega (arith, s .pre .logs-small .few)) (λ y below. omega (arith, products-small y (omega arith)))
 
 mul-total : tie.Need-mul-total Inv-loop μ-loop
 mul-total c = omega (arith, c .loop-test .taken, s c .pre .logs-small .few)
@@ -148,35 +164,17 @@ loop-again : tie.Need-loop-again Inv-loop μ-loop
 loop-again c =
     let l = c .before .before .before in
     let y = l .before .loop in
-    (omega arith, omega (arith, y .inv .1, lastCell-next (s l .args .last) (y .d) (l .loop-test .taken)), summed-next (y .inv .2) (omega (arith, l .loop-test .taken, s l .pre .logs-small .few)) (kept w64 (next l) (next-small l)))
+    let more = l .loop-test .taken in (
+      omega arith,
+      omega (arith, y .inv .1, lastCell-next (s l .args .last) (y .d) more),
+      summed-next (y .inv .2) (omega (arith, s l .pre .logs-small .few)) (kept w64 (next l) (next-small l)),
+    )
 
 returns : tie.Need-returns Inv-loop μ-loop
 returns c = record { is = λ n few. c .before .loop .inv .2 .there n (omega arith) }
 
 pub ratio-sums-spec : {M : Type 1} → statement M
-ratio-sums-spec =
-    tie.close
-    (tie.spec
-    Inv-loop
-    μ-loop
-    cells-of-requires
-    sub-at
-    loop-holds
-    mul-total
-    element-copy-out-total
-    cast-total
-    add-total
-    mul-total-2
-    element-copy-out-total-2
-    mul-total-3
-    element-copy-out-total-3
-    sub-total
-    mul-total-4
-    add-total-2
-    add-d
-    sub-at-2
-    mul-sums
-    array-set-from-sums
-    loop-less
-    loop-again
-    returns)
+ratio-sums-spec = tie.close (tie.spec
+    Inv-loop μ-loop cells-of-requires sub-at loop-holds mul-total element-copy-out-total cast-total add-total mul-total-2
+    element-copy-out-total-2 mul-total-3 element-copy-out-total-3 sub-total mul-total-4 add-total-2 add-d sub-at-2 mul-sums
+    array-set-from-sums loop-less loop-again returns)

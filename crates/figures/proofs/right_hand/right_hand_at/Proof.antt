@@ -1,17 +1,18 @@
--- `figures::right_hand::right_hand_at` meets its contract: no product and no sum wraps, and the sign of what is shared is the part's. Assumes nothing.
-use Prim.Native.Nat.{ℕ, _^_, _≤_}
+-- `figures::right_hand::right_hand_at` meets its contract: no product and no sum wraps, and the sign of what is shared is the part's.
+use Prim.Native.Nat.{ℕ, _^_, _≤_, _<_}
 use mathlib.Core.Path.{_≡_, refl, ap, ap₂, _∙_}
+use mathlib.Core.List.{List}
 use native.Mathlib.Omega.{arith}
 use lib.IntN.{ℤ, pos, natAbs, _+ℤ_, _-ℤ_, _*ℤ_}
 use denote.Ref.{now}
 use mir.Syntax.{w64}
-use mir.Val.{toZ, ofZ}
+use mir.Val.{toZ}
 use mir.Facts.{toZ-pos}
 use Rattle.integers.specs.Size.{fits, kept, natAbs-+, natAbs--, natAbs-*-≤}
 use Rattle.definitions.specs.Words.{part}
 use Rattle.definitions.specs.Matrix.{partOf}
 use Rattle.laws.specs.Ranks.{rankOf, rank-below}
-use Rattle.chain.specs.Bits.{read, same}
+use Rattle.chain.specs.Bits.{stored, read, same}
 use Rattle.figures.specs.Weights.{at}
 use Rattle.figures.specs.Sums.{columnSum}
 use Rattle.figures.specs.SumLaws.{columnSum-small, target-phi, target-psi}
@@ -24,46 +25,64 @@ module _ (s : tie.Start) where
   abbrev k : ℕ
   k = s .args .k
 
-  prior-small : at (now (s .args .priors)) k ≤ 2 ^ 28
+  abbrev priorWeight : ℕ
+  priorWeight = at (now (s .args .priors)) k
+
+  abbrev mean : ℤ
+  mean = part (now (s .args .means)) k
+
+  abbrev weight : ℕ
+  weight = at (now (s .args .columns)) k
+
+  abbrev columnTotal : ℤ
+  columnTotal = columnSum (now (s .args .logs)) (s .args .last) k
+
+  prior-small : priorWeight ≤ 2 ^ 28
   prior-small = s .pre .of-targets .priors-small k (s .pre .below)
 
-  column-small : at (now (s .args .columns)) k ≤ 2 ^ 28
+  mean-small : natAbs mean ≤ 2 ^ 26
+  mean-small = s .pre .of-targets .means-small k (s .pre .below)
+
+  column-small : weight ≤ 2 ^ 28
   column-small = s .pre .of-targets .columns-small k (s .pre .below)
 
-  prior : toZ w64 (at (now (s .args .priors)) k) *ℤ toZ w64 (ofZ w64 (part (now (s .args .means)) k)) ≡ pos (at (now (s .args .priors)) k) *ℤ part (now (s .args .means)) k
-  prior = ap₂ _*ℤ_ (toZ-pos w64 (omega (arith, prior-small))) (read (part (now (s .args .means)) k) (omega (arith, s .pre .of-targets .means-small k (s .pre .below))))
+  total-small : natAbs columnTotal ≤ 2 ^ 31
+  total-small = columnSum-small (now (s .args .logs)) (s .args .last) k (s .pre .of-targets .logs-small) (s .pre .below)
 
-  prior-product : natAbs (pos (at (now (s .args .priors)) k) *ℤ part (now (s .args .means)) k) ≤ 2 ^ 54
-  prior-product = natAbs-*-≤ (pos (at (now (s .args .priors)) k)) (part (now (s .args .means)) k) prior-small (s .pre .of-targets .means-small k (s .pre .below))
+  prior : toZ w64 priorWeight *ℤ stored mean ≡ pos priorWeight *ℤ mean
+  prior = ap₂ _*ℤ_ (toZ-pos w64 (omega (arith, prior-small))) (read mean (omega (arith, mean-small)))
 
-  abbrev sum-of-column : ℤ
-  sum-of-column = columnSum (now (s .args .logs)) (s .args .last) k
+  prior-product : natAbs (pos priorWeight *ℤ mean) ≤ 2 ^ 54
+  prior-product = natAbs-*-≤ (pos priorWeight) mean prior-small mean-small
 
-  column-product : natAbs (pos (at (now (s .args .columns)) k) *ℤ sum-of-column) ≤ 2 ^ 59
-  column-product = natAbs-*-≤ (pos (at (now (s .args .columns)) k)) sum-of-column column-small (columnSum-small (now (s .args .logs)) (s .args .last) k (s .pre .of-targets .logs-small) (s .pre .below))
+  column-product : natAbs (pos weight *ℤ columnTotal) ≤ 2 ^ 59
+  column-product = natAbs-*-≤ (pos weight) columnTotal column-small total-small
 
   abbrev own-sum : ℤ
-  own-sum = pos (at (now (s .args .priors)) k) *ℤ part (now (s .args .means)) k +ℤ pos (at (now (s .args .columns)) k) *ℤ sum-of-column
+  own-sum = pos priorWeight *ℤ mean +ℤ pos weight *ℤ columnTotal
 
   own-small : natAbs own-sum ≤ 2 ^ 60
-  own-small = omega (arith, prior-product, column-product, natAbs-+ (pos (at (now (s .args .priors)) k) *ℤ part (now (s .args .means)) k) (pos (at (now (s .args .columns)) k) *ℤ sum-of-column))
+  own-small = omega (arith, prior-product, column-product, natAbs-+ (pos priorWeight *ℤ mean) (pos weight *ℤ columnTotal))
 
 -- the part's own sum, as it is stored
 module _ (c : tie.After-column-sum) where
   abbrev start : tie.Start
   start = c .before .before .before .before
 
-  column : toZ w64 (at (now (start .args .columns)) (k start)) *ℤ toZ w64 (ofZ w64 (c .column-sum .result)) ≡ pos (at (now (start .args .columns)) (k start)) *ℤ sum-of-column start
+  abbrev columnProduct : ℤ
+  columnProduct = toZ w64 (weight start) *ℤ stored (c .column-sum .result)
+
+  column : columnProduct ≡ pos (weight start) *ℤ columnTotal start
   column =
       ap₂ _*ℤ_ (toZ-pos w64 (omega (arith, column-small start))) (same (c .column-sum .result) (c .column-sum .ok) ∙ c .column-sum .ensures)
 
-  own : toZ w64 (ofZ w64 (toZ w64 (at (now (start .args .priors)) (k start)) *ℤ toZ w64 (ofZ w64 (part (now (start .args .means)) (k start)))))
-      +ℤ toZ w64 (ofZ w64 (toZ w64 (at (now (start .args .columns)) (k start)) *ℤ toZ w64 (ofZ w64 (c .column-sum .result))))
-      ≡ own-sum start
+  abbrev ownSum : ℤ
+  ownSum = stored (toZ w64 (priorWeight start) *ℤ stored (mean start)) +ℤ stored columnProduct
+
+  own : ownSum ≡ own-sum start
   own = ap₂ _+ℤ_ (kept w64 (prior start) (omega (arith, prior-product start))) (kept w64 column (omega (arith, column-product start)))
 
-  own-kept : toZ w64 (ofZ w64 (toZ w64 (ofZ w64 (toZ w64 (at (now (start .args .priors)) (k start)) *ℤ toZ w64 (ofZ w64 (part (now (start .args .means)) (k start)))))
-      +ℤ toZ w64 (ofZ w64 (toZ w64 (at (now (start .args .columns)) (k start)) *ℤ toZ w64 (ofZ w64 (c .column-sum .result)))))) ≡ own-sum start
+  own-kept : stored ownSum ≡ own-sum start
   own-kept = kept w64 own (omega (arith, own-small start))
 
 -- and with what it shares
@@ -71,18 +90,40 @@ module _ (c : tie.After-rank-of) where
   abbrev begin : tie.Start
   begin = start (c .before)
 
-  abbrev ratio-of-part : ℤ
-  ratio-of-part = part (now (begin .args .ratios)) (rankOf (partOf (begin .args .last) (k begin)))
+  abbrev J : ℕ
+  J = begin .args .last
 
-  rank-small : c .rank-of .result ≤ begin .args .last
-  rank-small = omega (arith, c .rank-of .ensures, rank-below (begin .args .last) (k begin) (begin .pre .below))
+  abbrev rank : ℕ
+  rank = rankOf (partOf J (k begin))
 
-  ratio-small : natAbs ratio-of-part ≤ 2 ^ 58
-  ratio-small = begin .pre .of-targets .ratios-small (rankOf (partOf (begin .args .last) (k begin))) (rank-below (begin .args .last) (k begin) (begin .pre .below))
+  abbrev ratios : List ℤ
+  ratios = now (begin .args .ratios)
 
-  ratio : toZ w64 (ofZ w64 (part (now (begin .args .ratios)) (c .rank-of .result))) ≡ ratio-of-part
-  ratio =
-      ap (λ n. toZ w64 (ofZ w64 (part (now (begin .args .ratios)) n))) (c .rank-of .ensures) ∙ read ratio-of-part (omega (arith, ratio-small))
+  in-years : rank ≤ J
+  in-years = rank-below J (k begin) (begin .pre .below)
+
+  rank-small : c .rank-of .result ≤ J
+  rank-small = omega (arith, c .rank-of .ensures, in-years)
+
+  ratio-small : natAbs (part ratios rank) ≤ 2 ^ 58
+  ratio-small = begin .pre .of-targets .ratios-small rank in-years
+
+  ratio : stored (part ratios (c .rank-of .result)) ≡ part ratios rank
+  ratio = ap (λ n. stored (part ratios n)) (c .rank-of .ensures) ∙ read (part ratios rank) (omega (arith, ratio-small))
+
+  -- of a Φ
+  added : stored (ownSum (c .before)) +ℤ stored (part ratios (c .rank-of .result)) ≡ own-sum begin +ℤ part ratios rank
+  added = ap₂ _+ℤ_ (own-kept (c .before)) ratio
+
+  added-small : natAbs (own-sum begin +ℤ part ratios rank) < 2 ^ 63
+  added-small = omega (arith, own-small begin, ratio-small, natAbs-+ (own-sum begin) (part ratios rank))
+
+  -- of a Ψ
+  subtracted : stored (ownSum (c .before)) -ℤ stored (part ratios (c .rank-of .result)) ≡ own-sum begin -ℤ part ratios rank
+  subtracted = ap₂ _-ℤ_ (own-kept (c .before)) ratio
+
+  subtracted-small : natAbs (own-sum begin -ℤ part ratios rank) < 2 ^ 63
+  subtracted-small = omega (arith, own-small begin, ratio-small, natAbs-- (own-sum begin) (part ratios rank))
 
 mul-own : tie.Need-mul-own
 mul-own c = search needs
@@ -130,45 +171,23 @@ element-copy-out-shared : tie.Need-element-copy-out-shared
 element-copy-out-shared c = omega (arith, rank-small c, begin c .pre .of-targets .logs-small .few)
 
 add-result : tie.Need-add-result
-add-result c = let a = c .before .before in fits (ap₂ _+ℤ_ (own-kept (a .before)) (ratio a)) (omega (arith, own-small (begin a), ratio-small a, natAbs-+ (own-sum (begin a)) (ratio-of-part a)))
+add-result c = fits (added (c .before .before)) (added-small (c .before .before))
 
 returns : tie.Need-returns
 returns c =
     let a = c .before .before in
-    let s = begin a in
-    kept w64 (ap₂ _+ℤ_ (own-kept (a .before)) (ratio a)) (omega (arith, own-small s, ratio-small a, natAbs-+ (own-sum s) (ratio-of-part a)))
-    ∙ target-phi (now (s .args .priors)) (now (s .args .means)) (now (s .args .columns)) (now (s .args .logs)) (now (s .args .ratios)) (s .args .last) (k s) (c .if1 .taken)
+    kept w64 (added a) (added-small a) ∙ target-phi _ _ _ _ _ _ _ (c .if1 .taken)
 
 sub-result : tie.Need-sub-result
-sub-result c = let a = c .before .before in fits (ap₂ _-ℤ_ (own-kept (a .before)) (ratio a)) (omega (arith, own-small (begin a), ratio-small a, natAbs-- (own-sum (begin a)) (ratio-of-part a)))
+sub-result c = fits (subtracted (c .before .before)) (subtracted-small (c .before .before))
 
 returns-2 : tie.Need-returns-2
 returns-2 c =
     let a = c .before .before in
-    let s = begin a in
-    kept w64 (ap₂ _-ℤ_ (own-kept (a .before)) (ratio a)) (omega (arith, own-small s, ratio-small a, natAbs-- (own-sum s) (ratio-of-part a)))
-    ∙ target-psi (now (s .args .priors)) (now (s .args .means)) (now (s .args .columns)) (now (s .args .logs)) (now (s .args .ratios)) (s .args .last) (k s) (c .if1 .left)
+    kept w64 (subtracted a) (subtracted-small a) ∙ target-psi _ _ _ _ _ _ _ (c .if1 .left)
 
 pub right-hand-at-spec : {M : Type 1} → statement M
-right-hand-at-spec =
-    tie.close
-    (tie.spec
-    mul-own
-    element-copy-out-own
-    cast-own
-    mul-own-2
-    element-copy-out-own-2
-    mul-own-3
-    mul-own-4
-    element-copy-out-own-3
-    cast-own-2
-    column-sum-requires
-    mul-own-5
-    add-own
-    rank-of-requires
-    mul-shared
-    element-copy-out-shared
-    add-result
-    returns
-    sub-result
+right-hand-at-spec = tie.close (tie.spec
+    mul-own element-copy-out-own cast-own mul-own-2 element-copy-out-own-2 mul-own-3 mul-own-4 element-copy-out-own-3 cast-own-2
+    column-sum-requires mul-own-5 add-own rank-of-requires mul-shared element-copy-out-shared add-result returns sub-result
     returns-2)

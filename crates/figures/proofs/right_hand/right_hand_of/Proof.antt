@@ -1,5 +1,5 @@
--- `figures::right_hand::right_hand_of` meets its contract. The loop's invariant: the parts passed have their right-hand sides. Assumes nothing.
-use Prim.Native.Nat.{_-_, _≤_}
+-- `figures::right_hand::right_hand_of` meets its contract. The loop's invariant: the parts passed have their right-hand sides.
+use Prim.Native.Nat.{_-_, _≤_, _<_}
 use mathlib.Core.Path.{_∙_}
 use native.Mathlib.Omega.{arith}
 use lib.IntN.{pos}
@@ -10,7 +10,8 @@ use Rattle.figures.proofs.right_hand.right_hand_of.Statement.{statement
 use Rattle.figures.proofs.right_hand.right_hand_of.Tie as tie
 
 abbrev Inv-loop : tie.InvT-loop
-Inv-loop priors means columns logs ratios last count targets₀ k₀ targets k = (k ≤ count) × Filled 31 k (pos 0) (targetFrom priors means columns logs ratios last) targets
+Inv-loop priors means columns logs ratios last count targets₀ k₀ targets k =
+    (k ≤ count) × Filled 31 k (pos 0) (targetFrom priors means columns logs ratios last) targets
 
 abbrev μ-loop : tie.MeasureT-loop
 μ-loop priors means columns logs ratios last count targets₀ k₀ targets k = count - k
@@ -42,24 +43,14 @@ loop-less c = omega arith
 loop-again : tie.Need-loop-again Inv-loop μ-loop
 loop-again c =
     let l = c .before .before in
-    (omega arith, filled-next (l .loop .inv .1) (omega (arith, c .before .loop-test .taken, l .before .pre .logs-small .few)) (same (c .right-hand-at .result) (c .right-hand-at .ok) ∙ c .right-hand-at .ensures))
+    let room : l .loop .k < 31 = omega (arith, c .before .loop-test .taken, l .before .pre .logs-small .few) in
+    let target = same (c .right-hand-at .result) (c .right-hand-at .ok) ∙ c .right-hand-at .ensures in
+    (omega arith, filled-next (l .loop .inv .1) room target)
 
 returns : tie.Need-returns Inv-loop μ-loop
 returns c = record { filled = filled-to (omega arith) (c .before .loop .inv .1) }
 
 pub right-hand-of-spec : {M : Type 1} → statement M
-right-hand-of-spec =
-    tie.close
-    (tie.spec
-    Inv-loop
-    μ-loop
-    mul-count
-    add-count
-    loop-holds
-    right-hand-at-requires
-    mul-targets
-    array-set-from-targets
-    add-k
-    loop-less
-    loop-again
-    returns)
+right-hand-of-spec = tie.close (tie.spec
+    Inv-loop μ-loop mul-count add-count loop-holds right-hand-at-requires mul-targets array-set-from-targets add-k loop-less
+    loop-again returns)

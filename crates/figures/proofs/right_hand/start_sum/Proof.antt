@@ -1,16 +1,18 @@
--- `figures::right_hand::start_sum` meets its contract. The loop's invariant: `at` is the first cell of year i, and the total is that of the years before. Assumes nothing.
+-- `figures::right_hand::start_sum` meets its contract. The loop's invariant: `at` is the first cell of year i, and the total is
+-- that of the years before.
 use Prim.Native.Nat.{ℕ, _+_, _*_, _-_, _^_, _≤_, _<_}
 use mathlib.Core.Path.{_≡_, sym, ap, ap₂, _∙_}
+use mathlib.Core.List.{List}
 use native.Mathlib.Omega.{arith}
-use lib.IntN.{natAbs, _+ℤ_}
+use lib.IntN.{ℤ, natAbs, _+ℤ_}
 use denote.Ref.{now}
 use mir.Syntax.{w64}
-use mir.Val.{toZ, ofZ}
+use mir.Val.{toZ}
 use Rattle.integers.specs.Size.{fits, kept}
 use Rattle.integers.specs.Sum.{sum, sum-zero, sum-next}
 use Rattle.definitions.specs.Words.{part}
 use Rattle.definitions.specs.Layout.{cells, rowStart}
-use Rattle.chain.specs.Bits.{read}
+use Rattle.chain.specs.Bits.{stored, read}
 use Rattle.laws.specs.Accepted.{cell-below}
 use Rattle.figures.specs.Reading.{cells-few}
 use Rattle.figures.specs.Sums.{startSum}
@@ -38,27 +40,38 @@ module _ (c : tie.In-loop Inv-loop μ-loop) where
   abbrev i : ℕ
   i = c .before .loop .i
 
-  starts-inside : (y : ℕ) → y ≤ s .args .last → rowStart (s .args .last) y < 2 * cells (s .args .last)
-  starts-inside y few = omega (arith, cell-below (s .args .last) y 0 (omega arith))
+  abbrev at : ℕ
+  at = c .before .loop .at
 
-  inside : c .before .loop .at < 2 * cells (s .args .last)
+  abbrev J : ℕ
+  J = s .args .last
+
+  abbrev logs : List ℤ
+  logs = now (s .args .logs)
+
+  abbrev start : ℕ → ℤ
+  start y = part logs (rowStart J y)
+
+  starts-inside : (y : ℕ) → y ≤ J → rowStart J y < 2 * cells J
+  starts-inside y few = omega (arith, cell-below J y 0 (omega arith))
+
+  inside : at < 2 * cells J
   inside = omega (arith, c .before .loop .inv .1, starts-inside i (omega (arith, c .loop-test .taken)))
 
-  in-array : c .before .loop .at < 272
-  in-array = omega (arith, inside, cells-few (s .args .last) (s .pre .logs-small .few))
+  in-array : at < 272
+  in-array = omega (arith, inside, cells-few J (s .pre .logs-small .few))
 
-  log : toZ w64 (ofZ w64 (part (now (s .args .logs)) (c .before .loop .at))) ≡ part (now (s .args .logs)) (rowStart (s .args .last) i)
-  log =
-      read (part (now (s .args .logs)) (c .before .loop .at)) (omega (arith, s .pre .logs-small .small (c .before .loop .at) inside))
-      ∙ ap (part (now (s .args .logs))) (c .before .loop .inv .1)
+  log : stored (part logs at) ≡ start i
+  log = read (part logs at) (omega (arith, s .pre .logs-small .small at inside)) ∙ ap (part logs) (c .before .loop .inv .1)
 
-  next : toZ w64 (c .before .loop .total) +ℤ toZ w64 (ofZ w64 (part (now (s .args .logs)) (c .before .loop .at))) ≡ sum (i + 1) (λ y. part (now (s .args .logs)) (rowStart (s .args .last) y))
-  next = ap₂ _+ℤ_ (c .before .loop .inv .2) log ∙ sym (sum-next i (λ y. part (now (s .args .logs)) (rowStart (s .args .last) y)))
+  next : toZ w64 (c .before .loop .total) +ℤ stored (part logs at) ≡ sum (i + 1) start
+  next = ap₂ _+ℤ_ (c .before .loop .inv .2) log ∙ sym (sum-next i start)
 
-  next-small : natAbs (sum (i + 1) (λ y. part (now (s .args .logs)) (rowStart (s .args .last) y))) < 2 ^ 63
+  next-small : natAbs (sum (i + 1) start) < 2 ^ 63
   next-small =
-      sum-small (i + 1) (λ y. part (now (s .args .logs)) (rowStart (s .args .last) y)) (omega (arith, c .loop-test .taken, s .pre .logs-small .few))
-      (λ y below. omega (arith, s .pre .logs-small .small (rowStart (s .args .last) y) (starts-inside y (omega (arith, c .loop-test .taken)))))
+      let more = c .loop-test .taken in
+      sum-small (i + 1) start (omega (arith, s .pre .logs-small .few))
+      (λ y below. omega (arith, s .pre .logs-small .small (rowStart J y) (starts-inside y (omega arith))))
 
 mul-total : tie.Need-mul-total Inv-loop μ-loop
 mul-total c = omega (arith, in-array c)
@@ -90,23 +103,11 @@ returns : tie.Need-returns Inv-loop μ-loop
 unfolding startSum
 returns c =
     let l = c .before .loop in
-    let all : l .i ≡ c .before .before .args .last + 1 = omega arith in
-    l .inv .2 ∙ ap (λ m. sum m (λ y. part (now (c .before .before .args .logs)) (rowStart (c .before .before .args .last) y))) all
+    let a = c .before .before .args in
+    let all : l .i ≡ a .last + 1 = omega arith in
+    l .inv .2 ∙ ap (λ m. sum m (λ y. part (now (a .logs)) (rowStart (a .last) y))) all
 
 pub start-sum-spec : {M : Type 1} → statement M
-start-sum-spec =
-    tie.close
-    (tie.spec
-    Inv-loop
-    μ-loop
-    add-count
-    loop-holds
-    mul-total
-    element-copy-out-total
-    add-total
-    sub-at
-    add-at
-    add-i
-    loop-less
-    loop-again
+start-sum-spec = tie.close (tie.spec
+    Inv-loop μ-loop add-count loop-holds mul-total element-copy-out-total add-total sub-at add-at add-i loop-less loop-again
     returns)

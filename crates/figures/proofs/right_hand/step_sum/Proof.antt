@@ -1,16 +1,18 @@
--- `figures::right_hand::step_sum` meets its contract. The loop's invariant: `at` is the column's cell of year i, and the total is that of the years before. Assumes nothing.
+-- `figures::right_hand::step_sum` meets its contract. The loop's invariant: `at` is the column's cell of year i, and the total is
+-- that of the years before.
 use Prim.Native.Nat.{ℕ, _+_, _*_, _-_, _^_, _≤_, _<_}
 use mathlib.Core.Path.{_≡_, sym, ap, ap₂, _∙_}
+use mathlib.Core.List.{List}
 use native.Mathlib.Omega.{arith}
-use lib.IntN.{natAbs, _+ℤ_, _-ℤ_}
+use lib.IntN.{ℤ, natAbs, _+ℤ_, _-ℤ_}
 use denote.Ref.{now}
 use mir.Syntax.{w64}
-use mir.Val.{toZ, ofZ}
+use mir.Val.{toZ}
 use Rattle.integers.specs.Size.{fits, kept}
 use Rattle.integers.specs.Sum.{sum, sum-zero, sum-next}
 use Rattle.definitions.specs.Words.{part}
 use Rattle.definitions.specs.Layout.{cells, rowStart}
-use Rattle.chain.specs.Bits.{read}
+use Rattle.chain.specs.Bits.{stored, read}
 use Rattle.figures.specs.Reading.{cells-few}
 use Rattle.figures.specs.Sums.{stepOf, stepSum}
 use Rattle.figures.specs.SumLaws.{rowStart-none, rowStart-next, difference-small, sum-small}
@@ -18,7 +20,8 @@ use Rattle.figures.proofs.right_hand.step_sum.Statement.{statement}
 use Rattle.figures.proofs.right_hand.step_sum.Tie as tie
 
 abbrev Inv-loop : tie.InvT-loop
-Inv-loop logs last first n total₀ at₀ columns₀ i₀ total at columns i = (i ≤ n) × (at ≡ first + rowStart last i) × (columns + i ≡ last + 1) × (toZ w64 total ≡ sum i (stepOf logs last first))
+Inv-loop logs last first n total₀ at₀ columns₀ i₀ total at columns i =
+    (i ≤ n) × (at ≡ first + rowStart last i) × (columns + i ≡ last + 1) × (toZ w64 total ≡ sum i (stepOf logs last first))
 
 abbrev μ-loop : tie.MeasureT-loop
 μ-loop logs last first n total₀ at₀ columns₀ i₀ total at columns i = n - i
@@ -40,36 +43,44 @@ module _ (c : tie.In-loop Inv-loop μ-loop) where
   abbrev at : ℕ
   at = c .before .loop .at
 
-  inside : at + 1 < 2 * cells (s .args .last)
+  abbrev J : ℕ
+  J = s .args .last
+
+  abbrev logs : List ℤ
+  logs = now (s .args .logs)
+
+  abbrev stepAt : ℕ → ℤ
+  stepAt = stepOf logs J (s .args .first)
+
+  inside : at + 1 < 2 * cells J
   inside = omega (arith, c .before .loop .inv .1, s .pre .inside i (c .loop-test .taken))
 
   in-array : at + 1 < 272
-  in-array = omega (arith, inside, cells-few (s .args .last) (s .pre .logs-small .few))
+  in-array = omega (arith, inside, cells-few J (s .pre .logs-small .few))
 
-  log-at : (n : ℕ) → n < 2 * cells (s .args .last) → toZ w64 (ofZ w64 (part (now (s .args .logs)) n)) ≡ part (now (s .args .logs)) n
-  log-at n below = read (part (now (s .args .logs)) n) (omega (arith, s .pre .logs-small .small n below))
+  log-at : (n : ℕ) → n < 2 * cells J → stored (part logs n) ≡ part logs n
+  log-at n below = read (part logs n) (omega (arith, s .pre .logs-small .small n below))
 
-  step : toZ w64 (ofZ w64 (part (now (s .args .logs)) (at + 1))) -ℤ toZ w64 (ofZ w64 (part (now (s .args .logs)) at)) ≡ stepOf (now (s .args .logs)) (s .args .last) (s .args .first) i
+  step : stored (part logs (at + 1)) -ℤ stored (part logs at) ≡ stepAt i
   step =
       ap₂ _-ℤ_ (log-at (at + 1) inside) (log-at at (omega (arith, inside)))
-      ∙ ap (λ n. part (now (s .args .logs)) (n + 1) -ℤ part (now (s .args .logs)) n) (c .before .loop .inv .1)
+      ∙ ap (λ n. part logs (n + 1) -ℤ part logs n) (c .before .loop .inv .1)
 
-  steps-small : (y : ℕ) → y < s .args .n → natAbs (stepOf (now (s .args .logs)) (s .args .last) (s .args .first) y) ≤ 2 ^ 27
+  steps-small : (y : ℕ) → y < s .args .n → natAbs (stepAt y) ≤ 2 ^ 27
   steps-small y below =
-      difference-small (now (s .args .logs)) (s .args .last) (s .args .first + rowStart (s .args .last) y + 1) (s .args .first + rowStart (s .args .last) y) (s .pre .logs-small)
-      (s .pre .inside y below) (omega (arith, s .pre .inside y below))
+      let m = s .args .first + rowStart J y in
+      difference-small logs J (m + 1) m (s .pre .logs-small) (s .pre .inside y below) (omega (arith, s .pre .inside y below))
 
-  step-small : natAbs (stepOf (now (s .args .logs)) (s .args .last) (s .args .first) i) < 2 ^ 63
+  step-small : natAbs (stepAt i) < 2 ^ 63
   step-small = omega (arith, steps-small i (c .loop-test .taken))
 
-  next : toZ w64 (c .before .loop .total) +ℤ toZ w64 (ofZ w64 (toZ w64 (ofZ w64 (part (now (s .args .logs)) (at + 1))) -ℤ toZ w64 (ofZ w64 (part (now (s .args .logs)) at))))
-      ≡ sum (i + 1) (stepOf (now (s .args .logs)) (s .args .last) (s .args .first))
-  next = ap₂ _+ℤ_ (c .before .loop .inv .3) (kept w64 step step-small) ∙ sym (sum-next i (stepOf (now (s .args .logs)) (s .args .last) (s .args .first)))
+  next : toZ w64 (c .before .loop .total) +ℤ stored (stored (part logs (at + 1)) -ℤ stored (part logs at)) ≡ sum (i + 1) stepAt
+  next = ap₂ _+ℤ_ (c .before .loop .inv .3) (kept w64 step step-small) ∙ sym (sum-next i stepAt)
 
-  next-small : natAbs (sum (i + 1) (stepOf (now (s .args .logs)) (s .args .last) (s .args .first))) < 2 ^ 63
+  next-small : natAbs (sum (i + 1) stepAt) < 2 ^ 63
   next-small =
-      sum-small (i + 1) (stepOf (now (s .args .logs)) (s .args .last) (s .args .first)) (omega (arith, c .loop-test .taken, s .pre .few, s .pre .logs-small .few))
-      (λ y below. omega (arith, steps-small y (omega (arith, c .loop-test .taken))))
+      let more = c .loop-test .taken in
+      sum-small (i + 1) stepAt (omega (arith, s .pre .few, s .pre .logs-small .few)) (λ y below. omega (arith, steps-small y (omega arith)))
 
 add-total : tie.Need-add-total Inv-loop μ-loop
 add-total c = omega (arith, in-array c)
@@ -118,27 +129,11 @@ returns : tie.Need-returns Inv-loop μ-loop
 unfolding stepSum
 returns c =
     let l = c .before .loop in
-    let all : l .i ≡ c .before .before .args .n = omega arith in
-    l .inv .3 ∙ ap (λ m. sum m (stepOf (now (c .before .before .args .logs)) (c .before .before .args .last) (c .before .before .args .first))) all
+    let a = c .before .before .args in
+    let all : l .i ≡ a .n = omega arith in
+    l .inv .3 ∙ ap (λ m. sum m (stepOf (now (a .logs)) (a .last) (a .first))) all
 
 pub step-sum-spec : {M : Type 1} → statement M
-step-sum-spec =
-    tie.close
-    (tie.spec
-    Inv-loop
-    μ-loop
-    add-columns
-    loop-holds
-    add-total
-    mul-total
-    element-copy-out-total
-    mul-total-2
-    element-copy-out-total-2
-    sub-total
-    add-total-2
-    add-at
-    sub-columns
-    add-i
-    loop-less
-    loop-again
-    returns)
+step-sum-spec = tie.close (tie.spec
+    Inv-loop μ-loop add-columns loop-holds add-total mul-total element-copy-out-total mul-total-2 element-copy-out-total-2 sub-total
+    add-total-2 add-at sub-columns add-i loop-less loop-again returns)

@@ -1,4 +1,4 @@
--- `figures::weights::observations_of` meets its contract: an index up to J is a Φ, and one above is a Ψ. Assumes nothing.
+-- `figures::weights::observations_of` meets its contract: an index up to J is a Φ, and one above is a Ψ.
 use mathlib.Core.Path.{sym}
 use borrow.Author.Needs.{needs}
 use Rattle.figures.specs.WeightLaws.{observations-phi, observations-psi}

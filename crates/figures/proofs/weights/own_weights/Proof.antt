@@ -1,4 +1,4 @@
--- `figures::weights::own_weights` meets its contract. The loop's invariant: the parts passed have their own weights. Assumes nothing.
+-- `figures::weights::own_weights` meets its contract. The loop's invariant: the parts passed have their own weights.
 use Prim.Native.Nat.{_+_, _*_, _-_, _^_, _≤_, _<_}
 use mathlib.Core.Path.{ap}
 use native.Mathlib.Nat.{mul-le-mul}
@@ -50,7 +50,9 @@ fits c =
     let s = l .before .before in
     let k = l .before .loop .k in
     let below : k < parts (s .args .last) = omega (arith, l .loop-test .taken) in
-    omega (arith, ap (λ n. n * at (now (s .args .columns)) k) (c .before .observations-of .ensures), s .pre .priors-small k below, mul-le-mul (observations-few (s .args .last) k (s .pre .few)) (s .pre .columns-small k below))
+    let count = ap (λ n. n * at (now (s .args .columns)) k) (c .before .observations-of .ensures) in
+    let observed = mul-le-mul (observations-few (s .args .last) k (s .pre .few)) (s .pre .columns-small k below) in
+    omega (arith, s .pre .priors-small k below)
 
 mul-own-3 : tie.Need-mul-own-3 Inv-loop μ-loop
 mul-own-3 c = omega (arith, fits c)
@@ -73,30 +75,16 @@ loop-less c = omega arith
 loop-again : tie.Need-loop-again Inv-loop μ-loop
 loop-again c =
     let l = c .before .before .before .before in
-    (omega arith, filled-next (l .loop .inv .1) (omega (arith, c .before .before .before .loop-test .taken, l .before .pre .few)) (ap (λ n. at (now (l .before .args .priors)) (l .loop .k) + n * at (now (l .before .args .columns)) (l .loop .k)) (c .before .observations-of .ensures)))
+    let k = l .loop .k in
+    let a = l .before .args in
+    let room : k < 31 = omega (arith, c .before .before .before .loop-test .taken, l .before .pre .few) in
+    let weight = ap (λ n. at (now (a .priors)) k + n * at (now (a .columns)) k) (c .before .observations-of .ensures) in
+    (omega arith, filled-next (l .loop .inv .1) room weight)
 
 returns : tie.Need-returns Inv-loop μ-loop
 returns c = record { filled = filled-to (omega arith) (c .before .loop .inv .1) }
 
 pub own-weights-spec : {M : Type 1} → statement M
-own-weights-spec =
-    tie.close
-    (tie.spec
-    Inv-loop
-    μ-loop
-    mul-count
-    add-count
-    loop-holds
-    mul-own
-    element-copy-out-own
-    observations-of-requires
-    mul-own-2
-    element-copy-out-own-2
-    mul-own-3
-    add-own
-    mul-own-4
-    array-write-own
-    add-k
-    loop-less
-    loop-again
-    returns)
+own-weights-spec = tie.close (tie.spec
+    Inv-loop μ-loop mul-count add-count loop-holds mul-own element-copy-out-own observations-of-requires mul-own-2
+    element-copy-out-own-2 mul-own-3 add-own mul-own-4 array-write-own add-k loop-less loop-again returns)

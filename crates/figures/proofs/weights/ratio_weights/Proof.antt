@@ -1,10 +1,11 @@
--- `figures::weights::ratio_weights` meets its contract. The loop's invariant: the years from k on have their weights, and the variances to come after k are added up. Assumes nothing.
-use Prim.Native.Nat.{_+_, _*_, _-_, _^_, _≤_}
+-- `figures::weights::ratio_weights` meets its contract. The loop's invariant: the years from k on have their weights, and the
+-- variances to come after k are added up.
+use Prim.Native.Nat.{ℕ, _+_, _*_, _-_, _^_, _≤_, _<_}
 use mathlib.Core.Path.{_≡_, sym, ap, ap₂, subst, _∙_}
 use native.Mathlib.Omega.{arith}
 use denote.Ref.{now}
 use lib.ListN.{replicate}
-use Rattle.definitions.specs.Layout.{lastYear, varianceOf}
+use Rattle.definitions.specs.Layout.{Bytes, lastYear, varianceOf}
 use Rattle.definitions.specs.Observations.{σ², τ², ratioVariance}
 use Rattle.figures.specs.Weights.{Added}
 use Rattle.figures.specs.WeightLaws.{added-none, added-next, ratioVariance-next, ratioVariance-small}
@@ -27,7 +28,10 @@ add-incurred : tie.Need-add-incurred Inv-loop μ-loop
 add-incurred c = omega arith
 
 loop-holds : tie.Need-loop-holds Inv-loop μ-loop
-loop-holds c = (omega (arith, c .last-year .ensures), subst (λ n. Added n (now (c .before .before .args .file)) 0 (replicate 15 0)) (sym (c .last-year .ensures)) (added-none (now (c .before .before .args .file))))
+loop-holds c =
+    let file = now (c .before .before .args .file) in
+    let year = c .last-year .ensures in
+    (omega arith, subst (λ n. Added n file 0 (replicate 15 0)) (sym year) (added-none file))
 
 -- the years, as the loop has them
 year : (c : tie.In-loop Inv-loop μ-loop) → c .before .before .last-year .result ≡ lastYear (now (c .before .before .before .before .args .file))
@@ -46,7 +50,9 @@ add-variance-of-2 : tie.Need-add-variance-of-2 Inv-loop μ-loop
 add-variance-of-2 c = omega arith
 
 variance-of-requires-2 : tie.Need-variance-of-requires-2 Inv-loop μ-loop
-variance-of-requires-2 c κs = (c .before .before .before .before .before .pre .whole, omega (arith, year (c .before), c .before .loop-test .taken, c .before .before .loop .inv .0))
+variance-of-requires-2 c κs =
+    let l = c .before in
+    (l .before .before .before .before .pre .whole, omega (arith, year l, l .loop-test .taken, l .before .loop .inv .0))
 
 -- the two variances of one year more, and the sum with them
 module _ (c : tie.After-variance-of2 Inv-loop μ-loop) where
@@ -56,14 +62,25 @@ module _ (c : tie.After-variance-of2 Inv-loop μ-loop) where
   abbrev s : tie.Start Inv-loop μ-loop
   s = l .before .before .before .before
 
-  more : c .before .variance-of .result .0 + c .variance-of2 .result .0 ≡ σ² (now (s .args .file)) (l .before .loop .k - 1 + 1) + τ² (now (s .args .file)) (l .before .loop .k - 1)
-  more = ap₂ _+_ (c .before .variance-of .ensures) (c .variance-of2 .ensures ∙ ap (λ J. varianceOf (now (s .args .file)) (J + 1 + (l .before .loop .k - 1))) (year l))
+  abbrev file : Bytes
+  file = now (s .args .file)
 
-  sum-small : l .before .loop .variance + (c .before .variance-of .result .0 + c .variance-of2 .result .0) ≤ 30 * 2 ^ 40
+  -- the year before that of the loop
+  abbrev k : ℕ
+  k = l .before .loop .k - 1
+
+  abbrev added : ℕ
+  added = c .before .variance-of .result .0 + c .variance-of2 .result .0
+
+  more : added ≡ σ² file (k + 1) + τ² file k
+  more = ap₂ _+_ (c .before .variance-of .ensures) (c .variance-of2 .ensures ∙ ap (λ J. varianceOf file (J + 1 + k)) (year l))
+
+  sum-small : l .before .loop .variance + added ≤ 30 * 2 ^ 40
   sum-small =
-      let k = l .before .loop .k - 1 in
+      let below : k < lastYear file = omega (arith, l .loop-test .taken, l .before .loop .inv .0) in
       let before : l .before .loop .k ≡ k + 1 = omega (arith, l .loop-test .taken) in
-      omega (arith, more, ratioVariance-small (now (s .args .file)) k (s .pre), ratioVariance-next (now (s .args .file)) k (omega (arith, l .loop-test .taken, l .before .loop .inv .0)), l .before .loop .inv .1 .at-hand, ap (ratioVariance (now (s .args .file))) before)
+      let so-far = l .before .loop .inv .1 .at-hand ∙ ap (ratioVariance file) before in
+      omega (arith, more, ratioVariance-small file k (s .pre), ratioVariance-next file k below)
 
 add-variance : tie.Need-add-variance Inv-loop μ-loop
 add-variance c = omega (arith, sum-small (c .before .before))
@@ -87,31 +104,16 @@ loop-again : tie.Need-loop-again Inv-loop μ-loop
 loop-again c =
     let l = c .before .before .before .before .before in
     let y = l .before .loop in
-    (omega (arith, y .inv .0), added-next (y .inv .1) (omega (arith, l .loop-test .taken)) (omega (arith, l .loop-test .taken, y .inv .0)) (l .before .before .before .before .pre .whole .high) (more (c .before .before .before)) (c .weight-of .ensures))
+    let some = l .loop-test .taken in
+    let few = l .before .before .before .before .pre .whole .high in
+    let next = added-next (y .inv .1) (omega arith) (omega (arith, y .inv .0)) few (more (c .before .before .before)) (c .weight-of .ensures) in
+    (omega (arith, y .inv .0), next)
 
 returns : tie.Need-returns Inv-loop μ-loop
 returns c = record { is = λ k below. c .before .loop .inv .1 .there k (omega arith) below }
 
 pub ratio-weights-spec : {M : Type 1} → statement M
-ratio-weights-spec =
-    tie.close
-    (tie.spec
-    Inv-loop
-    μ-loop
-    last-year-requires
-    cast-k
-    add-incurred
-    loop-holds
-    sub-k
-    add-variance-of
-    variance-of-requires
-    add-variance-of-2
-    variance-of-requires-2
-    add-variance
-    add-variance-2
-    weight-of-requires
-    mul-weights
-    array-write-weights
-    loop-less
-    loop-again
+ratio-weights-spec = tie.close (tie.spec
+    Inv-loop μ-loop last-year-requires cast-k add-incurred loop-holds sub-k add-variance-of variance-of-requires add-variance-of-2
+    variance-of-requires-2 add-variance add-variance-2 weight-of-requires mul-weights array-write-weights loop-less loop-again
     returns)

@@ -1,4 +1,4 @@
--- `figures::weights::shares` meets its contract. The loop's invariant: the sums of the first 0..n weights are there. Assumes nothing.
+-- `figures::weights::shares` meets its contract. The loop's invariant: the sums of the first 0..n weights are there.
 use Prim.Native.Nat.{_+_, _-_, _^_, _≤_, _<_}
 use mathlib.Core.Path.{_≡_, refl, sym, ap₂, _∙_}
 use native.Mathlib.Omega.{arith}
@@ -48,7 +48,9 @@ next-small c =
     let l = c .before .before .loop in
     let s = c .before .before .before in
     let g = now (s .args .weights) in
-    omega (arith, c .before .loop-test .taken, s .pre .few, sum-size (l .n + 1) (λ i. pos (at g i)), total-bound (l .n + 1) (2 ^ 28) {f = λ i. natAbs (pos (at g i))} (λ i below. s .pre .small i (omega (arith, c .before .loop-test .taken))))
+    let more = c .before .loop-test .taken in
+    let bounded = total-bound (l .n + 1) (2 ^ 28) {f = λ i. natAbs (pos (at g i))} (λ i below. s .pre .small i (omega arith)) in
+    omega (arith, s .pre .few, sum-size (l .n + 1) (λ i. pos (at g i)))
 
 cast-total : tie.Need-cast-total Inv-loop μ-loop
 cast-total c = fits refl (omega (arith, small c))
@@ -77,19 +79,6 @@ returns : tie.Need-returns Inv-loop μ-loop
 returns c = record { is = λ n few. c .before .loop .inv .1 .there n (omega arith) }
 
 pub shares-spec : {M : Type 1} → statement M
-shares-spec =
-    tie.close
-    (tie.spec
-    Inv-loop
-    μ-loop
-    loop-holds
-    mul-total
-    element-copy-out-total
-    cast-total
-    add-total
-    add-n
-    mul-sums
-    array-set-from-sums
-    loop-less
-    loop-again
-    returns)
+shares-spec = tie.close (tie.spec
+    Inv-loop μ-loop loop-holds mul-total element-copy-out-total cast-total add-total add-n mul-sums array-set-from-sums loop-less
+    loop-again returns)

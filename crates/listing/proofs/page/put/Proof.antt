@@ -1,5 +1,5 @@
--- What `put` leaves at the page's front is what was there and the text, as far as the page goes. The invariant: the page is as long as it was, and its front
--- is what was there and the bytes passed. Assumes nothing.
+-- What `put` leaves at the page's front is what was there and the text, as far as the page goes. The invariant: the page is as long
+-- as it was, and its front is what was there and the bytes passed.
 use Prim.Native.Nat.{ℕ, _+_, _≤_, _<_, _-_}
 use mathlib.Core.Path.{_≡_, refl, sym, ap, _∙_}
 use mathlib.Core.List.{List, [], _∷_, _++_, append-nil, append-assoc}
@@ -29,7 +29,9 @@ module _ (page₀ text : List ℕ) (at : ℕ) (on : at ≤ length page₀) where
 
   -- the page is full
   full : (i : ℕ) → at + i ≡ length page₀ → take at page₀ ++ take i text ≡ take (length page₀) (take at page₀ ++ text)
-  full i e = sym (ap (λ n. take n (take at page₀ ++ text)) (sym (ap (λ n. n + i) front-length ∙ e)) ∙ take-append-add (take at page₀) text i)
+  full i e =
+      sym (take-append-add (take at page₀) text i)
+      ∙ ap (λ n. take n (take at page₀ ++ text)) (ap (λ n. n + i) front-length ∙ e)
 
   -- the text is put
   whole : (i : ℕ) → length text ≤ i → at + i ≤ length page₀ → take at page₀ ++ take i text ≡ take (length page₀) (take at page₀ ++ text)
@@ -38,7 +40,8 @@ module _ (page₀ text : List ℕ) (at : ℕ) (on : at ≤ length page₀) where
       ap (λ l. take at page₀ ++ l) (take-all i text passed) ∙ sym (take-all (length page₀) (take at page₀ ++ text) fits)
 
 abbrev Inv-loop : tie.InvT-loop
-Inv-loop page₀ at text end₀ i₀ page end i = (length page ≡ length page₀) × (end ≤ length page₀) × (end ≡ at + i) × (take end page ≡ take at page₀ ++ take i text)
+Inv-loop page₀ at text end₀ i₀ page end i =
+    (length page ≡ length page₀) × (end ≤ length page₀) × (end ≡ at + i) × (take end page ≡ take at page₀ ++ take i text)
 
 abbrev μ-loop : tie.MeasureT-loop
 μ-loop page₀ at text end₀ i₀ page end i = length text - i
@@ -50,7 +53,10 @@ same-length : tie.Need-same-length Inv-loop μ-loop
 same-length c = search needs
 
 returns : tie.Need-returns Inv-loop μ-loop
-returns c = let l = c .before .before .loop in record { counted = counts _ _ (omega arith); front = l .inv .3 ∙ full _ _ _ (c .before .before .before .pre) (l .i) (omega arith) }
+returns c =
+    let l = c .before .before .loop in
+    let front = l .inv .3 ∙ full _ _ _ (c .before .before .before .pre) (l .i) (omega arith) in
+    record { counted = counts _ _ (omega arith); front = front }
 
 shared-slice-read-page : tie.Need-shared-slice-read-page Inv-loop μ-loop
 shared-slice-read-page c = search needs
@@ -81,7 +87,12 @@ same-length-2 : tie.Need-same-length-2 Inv-loop μ-loop
 same-length-2 c = search needs
 
 returns-2 : tie.Need-returns-2 Inv-loop μ-loop
-returns-2 c = let l = c .before .loop in record { counted = counts _ _ (omega arith); front = l .inv .3 ∙ whole _ _ _ (c .before .before .pre) (l .i) (c .loop-test .left) (omega arith) }
+returns-2 c =
+    let l = c .before .loop in
+    let front = l .inv .3 ∙ whole _ _ _ (c .before .before .pre) (l .i) (c .loop-test .left) (omega arith) in
+    record { counted = counts _ _ (omega arith); front = front }
 
 pub put-spec : {M : Type 1} → statement M
-put-spec = tie.close (tie.spec Inv-loop μ-loop loop-holds same-length returns shared-slice-read-page slice-write-page add-end add-i loop-less loop-again same-length-2 returns-2)
+put-spec = tie.close (tie.spec
+    Inv-loop μ-loop loop-holds same-length returns shared-slice-read-page slice-write-page add-end add-i loop-less loop-again
+    same-length-2 returns-2)

@@ -1,4 +1,4 @@
--- A name, a number and the end of the line, one behind the other. Assumes nothing.
+-- A name, a number and the end of the line, one behind the other.
 use mathlib.Core.Path.{_∙_}
 use Rattle.listing.specs.Page.{both}
 use borrow.Author.Needs.{needs}

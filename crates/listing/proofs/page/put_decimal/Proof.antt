@@ -1,4 +1,4 @@
--- The digits that the library spells are the number in base ten. Assumes nothing.
+-- The digits that the library spells are the number in base ten.
 use mathlib.Core.Path.{_∙_}
 use Rattle.listing.specs.Page.{in-words}
 use Rattle.listing.specs.TextLaws.{at-most-twenty, fewest}
@@ -26,7 +26,8 @@ returns c =
     let spelt = c .before .before .before .before .before .decimal in
     let start = c .before .before .before .before .before .before .before .before in
     let n = start .args .n in
-    in-words (spelt .ensures .1 .1 ∙ fewest 19 (spelt .result) n (spelt .ensures .1 .0) (at-most-twenty (spelt .result) n (start .fits .n .fits) (spelt .ensures .1 .0))) (c .before .before .put .ensures)
+    let few = at-most-twenty (spelt .result) n (start .fits .n .fits) (spelt .ensures .1 .0) in
+    in-words (spelt .ensures .1 .1 ∙ fewest 19 (spelt .result) n (spelt .ensures .1 .0) few) (c .before .before .put .ensures)
 
 pub put-decimal-spec : {M : Type 1} → statement M
 put-decimal-spec = tie.close (tie.spec decimal-requires array-share-prefix-digits slice-aggregate-put put-requires same-length returns)

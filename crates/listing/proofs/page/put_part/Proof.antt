@@ -1,4 +1,4 @@
--- A name, an index, a space, a mean and the end of the line, one behind the other. Assumes nothing.
+-- A name, an index, a space, a mean and the end of the line, one behind the other.
 use mathlib.Core.Path.{ap, _∙_}
 use mir.Facts.{toZ-ofZ}
 use Rattle.listing.specs.Page.{both, in-words}
@@ -33,14 +33,23 @@ same-length c = search needs
 
 returns : tie.Need-returns
 returns c =
-    let named = c .before .before .before .before .before .before .before .before .before .before .before .before .before .before .before .before .before .before .before .before .put in
-    let indexed = c .before .before .before .before .before .before .before .before .before .before .before .before .before .before .before .before .put-decimal in
-    let parted = c .before .before .before .before .before .before .before .before .before .before .before .put2 in
-    let signed = c .before .before .before .before .before .before .before .put-signed in
+    let signed-by = c .before .before .before .before .before .before .before in
+    let parted-by = signed-by .before .before .before .before in
+    let indexed-by = parted-by .before .before .before .before .before in
+    let named-by = indexed-by .before .before .before .before in
+    let named = named-by .put in
+    let indexed = indexed-by .put-decimal in
+    let parted = parted-by .put2 in
+    let signed = signed-by .put-signed in
     let same₁ = named .kept .0 in
     let same₂ = indexed .kept .0 ∙ same₁ in
     let same₃ = parted .kept .0 ∙ same₂ in
-    both (both (both (both (named .ensures) same₁ (indexed .ensures)) same₂ (parted .ensures)) same₃ (in-words (ap signedDecimal (toZ-ofZ (c .before .before .before .before .before .before .before .before .before .before .before .before .before .before .before .before .before .before .before .before .before .before .before .before .fits .mean))) (signed .ensures))) (signed .kept .0 ∙ same₃) (c .before .before .put3 .ensures)
+    let same₄ = signed .kept .0 ∙ same₃ in
+    let mean = in-words (ap signedDecimal (toZ-ofZ (named-by .before .before .before .before .fits .mean))) (signed .ensures) in
+    let front = both (both (named .ensures) same₁ (indexed .ensures)) same₂ (parted .ensures) in
+    both (both front same₃ mean) same₄ (c .before .before .put3 .ensures)
 
 pub put-part-spec : {M : Type 1} → statement M
-put-part-spec = tie.close (tie.spec put-requires put-decimal-requires slice-aggregate-put put-requires-2 put-signed-requires slice-aggregate-put-2 put-requires-3 same-length returns)
+put-part-spec = tie.close (tie.spec
+    put-requires put-decimal-requires slice-aggregate-put put-requires-2 put-signed-requires slice-aggregate-put-2 put-requires-3
+    same-length returns)

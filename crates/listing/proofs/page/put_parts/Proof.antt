@@ -1,4 +1,4 @@
--- The lines of a record's parts. The invariant: the page is as long as it was, and the lines of the parts passed are added. Assumes nothing.
+-- The lines of a record's parts. The invariant: the page is as long as it was, and the lines of the parts passed are added.
 use Prim.Native.Nat.{_+_, _-_, _≤_}
 use mathlib.Core.Path.{_≡_, refl, ap, _∙_}
 use native.Mathlib.Omega.{arith}
@@ -16,7 +16,8 @@ use Rattle.listing.proofs.page.put_parts.Statement.{statement}
 use Rattle.listing.proofs.page.put_parts.Tie as tie
 
 abbrev Inv-loop : tie.InvT-loop
-Inv-loop page₀ at name «record» first count end₀ k₀ page end k = (length page ≡ length page₀) × (k ≤ count) × Added page₀ at (partLines name (partFrom «record» first) k) page end
+Inv-loop page₀ at name «record» first count end₀ k₀ page end k =
+    (length page ≡ length page₀) × (k ≤ count) × Added page₀ at (partLines name (partFrom «record» first) k) page end
 
 abbrev μ-loop : tie.MeasureT-loop
 μ-loop page₀ at name «record» first count end₀ k₀ page end k = count - k
@@ -50,7 +51,9 @@ returns : tie.Need-returns Inv-loop μ-loop
 returns c =
     let start = c .before .before .before .before .before .before .before .before in
     let l = c .before .before .before .before .loop in
-    absurd (omega (arith, start .pre .1, signed-outside (partAt (start .args .first + l .k)) (now (start .args .«record»)) (c .before .before .signed-4 .ensures) (c .enum-told .given .1)))
+    let place = partAt (start .args .first + l .k) in
+    let outside = signed-outside place (now (start .args .«record»)) (c .before .before .signed-4 .ensures) (c .enum-told .given .1) in
+    absurd (omega (arith, start .pre .1, outside))
 
 put-part-requires : tie.Need-put-part-requires Inv-loop μ-loop
 put-part-requires c κs = let l = c .before .before .before .before .before .before .loop in omega (arith, l .inv .0, l .inv .2 .counted .0)
@@ -63,10 +66,13 @@ loop-less c = omega arith
 
 loop-again : tie.Need-loop-again Inv-loop μ-loop
 loop-again c =
+    let told = c .before .before .before .before in
+    let read-by = told .before .before .before in
     let a = c .before .before .before .before .before .before .before .before .before .before .before .before .before .args in
     let l = c .before .before .before .before .before .before .before .before .before .loop in
     let line = c .before .before .put-part in
-    let mean = toZ-ofZ (record { sfits = c .before .before .before .before .known-told .given .0 .1 }) ∙ signed-read (partAt (a .first + l .k)) (now (a .«record»)) (c .before .before .before .before .before .before .before .signed-4 .ensures) (c .before .before .before .before .before .mean .given .1) in (
+    let field = signed-read (partAt (a .first + l .k)) (now (a .«record»)) (read-by .signed-4 .ensures) (told .before .mean .given .1) in
+    let mean = toZ-ofZ (record { sfits = told .known-told .given .0 .1 }) ∙ field in (
       line .kept .0 ∙ l .inv .0,
       omega arith,
       in-words (lines-next (now (a .name)) (partFrom (now (a .«record»)) (a .first)) (l .k))
@@ -84,4 +90,6 @@ returns-2 c =
     in-words (ap (partLines (now (a .name)) (partFrom (now (a .«record»)) (a .first))) all) (l .inv .2)
 
 pub put-parts-spec : {M : Type 1} → statement M
-put-parts-spec = tie.close (tie.spec Inv-loop μ-loop loop-holds add-signed-4 mul-signed-4 add-signed-4-2 signed-4-requires enum-known-mean enum-told same-length returns put-part-requires add-k loop-less loop-again same-length-2 returns-2)
+put-parts-spec = tie.close (tie.spec
+    Inv-loop μ-loop loop-holds add-signed-4 mul-signed-4 add-signed-4-2 signed-4-requires enum-known-mean enum-told same-length
+    returns put-part-requires add-k loop-less loop-again same-length-2 returns-2)

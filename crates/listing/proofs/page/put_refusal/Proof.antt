@@ -1,4 +1,4 @@
--- A name, a number, and the line of a place, one behind the other. Assumes nothing.
+-- A name, a number, and the line of a place, one behind the other.
 use mathlib.Core.Path.{_∙_}
 use Rattle.listing.specs.Page.{both}
 use borrow.Author.Needs.{needs}
@@ -30,4 +30,5 @@ returns c =
     both (both (named .ensures) (named .kept .0) (numbered .ensures)) (numbered .kept .0 ∙ named .kept .0) (c .before .before .put-count .ensures)
 
 pub put-refusal-spec : {M : Type 1} → statement M
-put-refusal-spec = tie.close (tie.spec slice-aggregate-put put-requires put-decimal-requires slice-aggregate-put-count put-count-requires same-length returns)
+put-refusal-spec = tie.close (tie.spec
+    slice-aggregate-put put-requires put-decimal-requires slice-aggregate-put-count put-count-requires same-length returns)
