@@ -40,7 +40,7 @@ typedef struct desk_session {
 
 #define DESK_EMPTY {{0}, {0}, {0}, {0}, {0}}
 
-/* Number 0: the call did its job. Otherwise document 01's number, and the place of the field's first byte or 0. */
+/* Number 0: the call did its job. Otherwise document 01's number, and where the field begins that is refused, or 0. */
 typedef struct desk_refusal {
     uint64_t number;
     uint64_t place;
@@ -101,7 +101,7 @@ static inline desk_judgement desk_judge(const desk_session *s, const uint8_t *re
     return desk_judge_lent(s->held, s->own, s->matrix, s->right_hand, s->mean, record, length);
 }
 
-/* Runs up to n sweeps, stopping after the first whose mean passes or at a total of DESK_MOST_SWEEPS. A mean that passes
+/* Runs at most n sweeps: none once the mean passes, and none past a total of DESK_MOST_SWEEPS. A mean that passes
  * already is settled with no sweep run. May be refused with 21, then 12, then, where the mean does not pass, 23. */
 static inline desk_sweeping desk_sweep(desk_session *s, uint64_t n) {
     return desk_sweep_lent(s->held, s->own, s->matrix, s->right_hand, s->mean, n);

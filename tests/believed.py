@@ -115,7 +115,7 @@ def listed() -> list[str]:
     section = text_of("README.md").split(LIST)[1].split("\n## ")[0]
     found = []
     for first, block, is_code in blocks(section):
-        if is_code or not block.startswith("- "):
+        if is_code or not block.lstrip().startswith("- "):
             continue
         for sentence in sentences(first, block):
             named = Named()

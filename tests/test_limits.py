@@ -108,7 +108,7 @@ class Refusals(unittest.TestCase):
 
 class Limits(unittest.TestCase):
     def test_of_the_readme(self) -> None:
-        said = re.search(r"^## Limits\n\n(.*?)\. Left out", README, re.MULTILINE | re.DOTALL)[1]
+        said = re.search(r"^## Limits\n\n(.*?)\. The desk estimates", README, re.MULTILINE | re.DOTALL)[1]
         last, part = value("yearLimit"), value("partLimit")
         doublings = part // reserving_desk.TICKS_PER_DOUBLING
         years = [2, last + 1, *defined(3)]

@@ -8,7 +8,7 @@
             mean = desk.read()
 
 A file is bytes; `file_of` makes one from plain numbers. A call that is refused raises `Refused`, which has document 01's number
-and place, what the number means, and the name of the field. Parts of a mean are ticks: 1/1,048,576 of a doubling.
+and place, what the number means, and the name of the field. Parts of a mean are ticks: a doubling has 1,048,576.
 """
 
 from .builders import Prior, file_of, record_of

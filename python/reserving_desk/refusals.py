@@ -5,7 +5,7 @@ from __future__ import annotations
 from typing import Optional
 
 WORDS = {
-    1: "fewer than 10 bytes (record: 5), or the length word differs from the bytes lent",
+    1: "fewer than 10 bytes (record: 5), or not as many as its length word says",
     2: "the version is not 1",
     3: "J is not 1 to 15",
     4: "the length is wrong for J",

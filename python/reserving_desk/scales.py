@@ -1,4 +1,4 @@
-"""Ticks and natural logarithms. A tick is 1/1,048,576 of a doubling; papers use natural logarithms."""
+"""Ticks and natural logarithms. Files are in ticks, of which a doubling has 1,048,576; papers use natural logarithms."""
 
 from __future__ import annotations
 

@@ -1,5 +1,5 @@
 -- Demand 3: what a passed mean is worth. A rational vector is any u over one m ≥ 1, with no limits; of u only the parts 0..2J
--- count. Everything is stated in whole numbers: losses times m², residues times m, distances times m² and times the sum of D.
+-- count. Whole numbers alone are compared: a loss is m² times as large here, a residue m times, a distance m²·ΣD times.
 use Prim.Native.Nat.{ℕ, _*_, _≤_, _<_}
 use mathlib.Core.Path.{_≡_}
 use mathlib.Core.Logic.{_≢_}
@@ -26,7 +26,7 @@ module _ (f : Bytes) where
   abbrev pub ZeroResidue : ℕ → Vector → Type 0
   ZeroResidue m u = (k : ℕ) → k < partsOf → residueTimes (chainOf f) m u k ≡ pos 0
 
-  -- the weighted mean square distance of u/m and a mean, times m² and times the sum of D
+  -- how far u/m is from a mean in weighted mean square; as a whole number, m²·ΣD times that
   abbrev pub distanceTimes : ℕ → Vector → Vector → ℤ
   distanceTimes m u μ = sum partsOf (λ k. weighted (own (chainOf f) k) (u k -ℤ pos m *ℤ μ k))
 
@@ -34,7 +34,7 @@ module _ (f : Bytes) where
   abbrev pub Another : ℕ → Vector → Vector → Type 0
   Another m u μ = (k : ℕ) × (k < partsOf) × (u k ≢ pos m *ℤ μ k)
 
-  -- each part is within half a tick of u/m
+  -- the mean is u/m rounded: no part is further off than half a tick
   abbrev pub WithinHalfATick : ℕ → Vector → Vector → Type 0
   WithinHalfATick m u μ = (k : ℕ) → k < partsOf → 2 * natAbs (u k -ℤ pos m *ℤ μ k) ≤ m
 

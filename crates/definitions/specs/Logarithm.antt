@@ -1,14 +1,14 @@
--- Document 01, "Logarithm of a". A tick is 1/1,048,576 of a doubling. The number of squarings is a parameter.
+-- Document 01, "Logarithm of a": in ticks. The number of squarings is a parameter.
 use Prim.Native.Nat.{ℕ, zero, suc, _+_, _*_, _-_, _/_, _^_}
 use mathlib.Core.Bool.{cond}
 use lib.Dec.{leb}
 use lib.Count.{leadingZeros}
 
--- document 01's T
+-- T, the ticks of a doubling
 abbrev pub ticksPerDoubling : ℕ
 ticksPerDoubling = 1048576
 
--- h, the place of the highest one bit of a 64-bit amount
+-- h: 2^h is the highest power of two in a 64-bit amount
 unfoldable pub highestBit : ℕ → ℕ
 highestBit a = 63 - leadingZeros 64 a
 

@@ -25,7 +25,7 @@ abbrev pub isClear : Check → Bool
 isClear clear = true
 isClear (refuses number place) = false
 
--- a file is accepted exactly if none of open's input checks refuses it
+-- what open's checks of the input let through
 abbrev pub accepted : Bytes → Bool
 accepted f = isClear (openCheck f)
 
@@ -55,7 +55,7 @@ abbrev pub refusedOr : Check → Answer → Answer
 refusedOr clear a = a
 refusedOr (refuses number place) a = refused number place
 
--- Empty, or what is kept of the accepted file, the mean and the total. Document 01's machine keeps the file itself; a session keeps
+-- Nothing, or an open file with its mean and how many sweeps were run. Document 01's machine keeps the file itself; a session keeps
 -- its figures.
 pub data State (X : Type 0) : Type 0 where
   empty : State X
@@ -84,7 +84,7 @@ module _ (X : Type 0) (keep : Bytes → X) (figures : X → Figures) where
   abbrev pub answers : State X → Answer → Outcome X
   answers st a = record { answer = a; state = st; buffer = [] }
 
-  -- open: the prior means as mean, 0 sweeps
+  -- the mean starts at the prior means, and no sweep is run
   abbrev pub openUnless : Check → Bytes → Outcome X
   openUnless clear f = record { answer = opened; state = holds (keep f) (tabFrom 0 (parts (lastYear f)) (priorMean f)) 0; buffer = [] }
   openUnless (refuses number place) f = answers empty (refused number place)
@@ -98,7 +98,7 @@ module _ (X : Type 0) (keep : Bytes → X) (figures : X → Figures) where
   judgeCall (holds x μ total) r =
       refusedOr (recordCheck (figures x .last) r) (judged (judgement (figures x) (part (meanOf (figures x .last) r))))
 
-  -- settled exactly when the mean held after it passes
+  -- the mean that is held from now on decides the answer
   abbrev pub sweptTo : X → Swept → Outcome X
   sweptTo x h = record {
     answer = cond (passes (figures x) (part (h .mean))) (settled (h .swept)) (going (h .swept));

@@ -1,5 +1,5 @@
--- Document 01, "Turned back by the input": the checks in number order, fields in file order within a number. Each check answers
--- `clear`, or number and place; the place is the field's first byte, and 0 where the document gives none.
+-- Document 01, "Turned back by the input": the checks one after another, each over its fields in their order. A check answers
+-- `clear`, or a number and the place of the field that is refused, which is 0 where none is to blame.
 use Prim.Native.Nat.{ℕ, zero, suc, _*_, _^_}
 use mathlib.Core.Bool.{Bool, true, false, _&&_}
 use lib.ListN.{length}
@@ -87,7 +87,7 @@ check8 s = fields (λ k. goodPart (priorMean s k)) 8 (priorMeanAt (lastYear s)) 
 unfoldable pub check9 : Bytes → Check
 check9 s = fields (λ c. goodAmount (amount s c)) 9 (amountAt (lastYear s)) 0 (2 * cells (lastYear s))
 
--- year 0 has the same last paid and incurred amount
+-- in year 0 what was paid in the end is what was incurred
 unfoldable pub check10 : Bytes → Check
 check10 s = unless (eqb (paid s 0 (lastYear s)) (incurred s 0 (lastYear s))) 10 (paidAt (lastYear s) 0 (lastYear s))
 

@@ -1,5 +1,5 @@
--- The precision matrix is symmetric, and each diagonal entry of a file that the checks 1 to 10 let through is positive: every part has an
--- observation of its own, so that no prior is needed for it. Number 16 therefore never refuses.
+-- The precision matrix is symmetric, and on its diagonal positive for every file that the checks 1 to 10 let through: no part lacks
+-- an observation, and so none needs a prior. Number 16 therefore never refuses.
 use Prim.Native.Nat.{ℕ, zero, suc, _+_, _*_, _≤_, _<_, min}
 use mathlib.Core.Path.{_≡_, refl, sym, ap, ap₂, _∙_, subst}
 use mathlib.Core.Bool.{Bool, true, false, not}
