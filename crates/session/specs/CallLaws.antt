@@ -16,7 +16,7 @@ use Rattle.definitions.specs.Matrix.{Judgement, passed, fails, judgement, isPas
 use Rattle.definitions.specs.Sweep as S
 use Rattle.definitions.specs.Sweep.{sweeps, sweepLimit}
 use Rattle.definitions.specs.Machine as M
-use Rattle.definitions.specs.Machine.{Answer, judged, settled, going, written, State, holds, Outcome, openCheck, refusedOr, accepted}
+use Rattle.definitions.specs.Machine.{Answer, judged, settled, going, written, State, holds, Outcome, openCheck, refusedOr}
 use Rattle.definitions.specs.Machine.{openCall, judgeCall, sweepCall, sweptTo, readCall}
 use Rattle.definitions.specs.Guarantee.{Guarantee, Rounded}
 use Rattle.laws.specs.Demand3.{demand3}
@@ -32,10 +32,10 @@ use Rattle.session.specs.declared.answers.SweepAnswer.the-variants.{Sett
 use Rattle.session.specs.declared.answers.ReadAnswer.{ReadAnswer}
 use Rattle.session.specs.declared.answers.ReadAnswer.the-variants.{Written, Refused as ReadRefused}
 use Rattle.session.specs.declared.answers.Sweeping.{Sweeping}
-use Rattle.session.specs.State.{Fits, stateOf}
+use Rattle.session.specs.State.{Fits, held, stateOf}
 use Rattle.session.specs.StateLaws.{stateOf-held, stateOf-empty}
 use Rattle.session.specs.Calls as C
-use Rattle.session.specs.Calls.{opensTo, judgesTo, sweepsTo, readsTo, HoldsFile, Opens, Judges, Sweeps, Reads}
+use Rattle.session.specs.Calls.{judgesTo, sweepsTo, readsTo, HoldsFile, Opens, Judges, Sweeps, Reads}
 
 -- ---- open
 
@@ -112,7 +112,8 @@ module _ (f : Bytes) (μ : List ℤ) (total : ℕ) (r : Bytes) where
   unfolding judgeCall D.figuresOf
   passed-passes e = ap isPassed (judged-same (refused-or (recordCheck (lastYear f) r) _ passed e))
 
-  passes-passed : recordCheck (lastYear f) r ≡ clear → passes (D.figuresOf f) (part (meanOf (lastYear f) r)) ≡ true → judgedTo ≡ judged passed
+  passes-passed : recordCheck (lastYear f) r ≡ clear → passes (D.figuresOf f) (part (meanOf (lastYear f) r)) ≡ true
+      → judgedTo ≡ judged passed
   unfolding judgeCall D.figuresOf
   passes-passed c e = rw c (ap judged (is-passed _ e))
 
@@ -263,34 +264,41 @@ module _ (s : Session) (n : ℕ) where
     abbrev μ : List ℤ
     μ = A.meanOf (s .figures .last) (s .mean)
 
+    is-open : stateOf s ≡ held s
+    is-open = stateOf-held s h
+
     pub sweeps-outside : within 1 sweepLimit n ≡ false → Sweeps s n (record { answer = SweepRefused 12 0; session = s })
     unfolding sweepCall
-    sweeps-outside w = let e = stateOf-held s h in sweeps-as _ (rw (e, w) refl) (rw (e, w) refl) (λ _ _ _. refl)
+    sweeps-outside w = sweeps-as _ (rw (is-open, w) refl) (rw (is-open, w) refl) (λ _ _ _. refl)
 
     module _ (w : within 1 sweepLimit n ≡ true) where
       pub sweeps-settled : passes F (part μ) ≡ true → Sweeps s n (record { answer = Settled (s .total); session = s })
       unfolding sweepCall
-      sweeps-settled p = let e = stateOf-held s h in sweeps-as _ (rw (e, w, p) refl) (rw (e, w, p) refl) (λ _ _ no-answer. absurd (settled-refused no-answer))
+      sweeps-settled p = sweeps-as _ (rw (is-open, w, p) refl) (rw (is-open, w, p) refl) (λ _ _ e. absurd (settled-refused e))
 
       module _ (p : passes F (part μ) ≡ false) where
         pub sweeps-spent : sweepLimit ≤ s .total → Sweeps s n (record { answer = SweepRefused 23 0; session = s })
         unfolding sweepCall
-        sweeps-spent most = let e = stateOf-held s h in let l = le-leb sweepLimit (s .total) most in sweeps-as _ (rw (e, w, p, l) refl) (rw (e, w, p, l) refl) (λ _ _ _. refl)
+        sweeps-spent most =
+            let none-left = le-leb sweepLimit (s .total) most in
+            sweeps-as _ (rw (is-open, w, p, none-left) refl) (rw (is-open, w, p, none-left) refl) (λ _ _ _. refl)
 
-        module _ (more : s .total < sweepLimit) (t : Session) (ν : List ℤ) (after : stateOf t ≡ holds F ν (t .total)) (end : sweeps F n μ (s .total) ≡ record { mean = ν; swept = t .total }) where
+        module _ (more : s .total < sweepLimit) (t : Session) (ν : List ℤ) (after : stateOf t ≡ holds F ν (t .total))
+            (end : sweeps F n μ (s .total) ≡ record { mean = ν; swept = t .total }) where
+          some-left : leb sweepLimit (s .total) ≡ false
+          some-left = lt-leb sweepLimit (s .total) more
+
           pub sweeps-done : passes F (part ν) ≡ true → Sweeps s n (record { answer = Settled (t .total); session = t })
           unfolding sweepCall
           sweeps-done q =
-              let e = stateOf-held s h in
-              let l = lt-leb sweepLimit (s .total) more in
-              sweeps-as _ (rw (e, w, p, l, end, q) refl) (rw (e, w, p, l, end, after) refl) (λ _ _ no-answer. absurd (settled-refused no-answer))
+              sweeps-as _ (rw (is-open, w, p, some-left, end, q) refl) (rw (is-open, w, p, some-left, end, after) refl)
+              (λ _ _ e. absurd (settled-refused e))
 
           pub sweeps-going : passes F (part ν) ≡ false → Sweeps s n (record { answer = Going (t .total); session = t })
           unfolding sweepCall
           sweeps-going q =
-              let e = stateOf-held s h in
-              let l = lt-leb sweepLimit (s .total) more in
-              sweeps-as _ (rw (e, w, p, l, end, q) refl) (rw (e, w, p, l, end, after) refl) (λ _ _ no-answer. absurd (going-refused no-answer))
+              sweeps-as _ (rw (is-open, w, p, some-left, end, q) refl) (rw (is-open, w, p, some-left, end, after) refl)
+              (λ _ _ e. absurd (going-refused e))
 
 -- ---- read
 
@@ -304,18 +312,22 @@ module _ (F : D.Figures) (μ : List ℤ) (total : ℕ) (b : Bytes) where
 
   -- read's two tests
   abbrev tested : Bool → Bool → Outcome D.Figures
-  tested c d = cond (not c) (answered (M.refused 24 0) b) (cond d (answered (M.refused 13 0) b) (answered written (recordOf (F .last) μ ++ drop (recordLength (F .last)) b)))
+  tested c d =
+      cond (not c) (answered (M.refused 24 0) b)
+      (cond d (answered (M.refused 13 0) b) (answered written (recordOf (F .last) μ ++ drop (recordLength (F .last)) b)))
 
   written-passes : readsTo (holds F μ total) b .answer ≡ written → passes F (part μ) ≡ true
   unfolding readCall
   written-passes = by-cases (passes F (part μ)) refl
     where
-      by-cases : (c : Bool) → passes F (part μ) ≡ c → tested c (ltb (length b) (recordLength (F .last))) .answer ≡ written → passes F (part μ) ≡ true
+      by-cases : (c : Bool) → passes F (part μ) ≡ c → tested c (ltb (length b) (recordLength (F .last))) .answer ≡ written
+          → passes F (part μ) ≡ true
       by-cases true e a = e
       by-cases false e a = absurd (refused-written a)
 
 module _ (s : Session) (before : Bytes) where
-  reads-as : (r : ReadAnswer) (after : Bytes) → C.ofRead r ≡ readsTo (stateOf s) before .answer → after ≡ readsTo (stateOf s) before .buffer → Reads s before r after
+  reads-as : (r : ReadAnswer) (after : Bytes) → C.ofRead r ≡ readsTo (stateOf s) before .answer
+      → after ≡ readsTo (stateOf s) before .buffer → Reads s before r after
   reads-as r after a b = record {
     answer = a;
     buffer = b;
@@ -343,8 +355,15 @@ module _ (s : Session) (before : Bytes) where
     module _ (p : passes G (part ν) ≡ true) where
       pub reads-short : length before < recordLength (s .figures .last) → Reads s before (ReadRefused 13 0) before
       unfolding readCall figuresOf
-      reads-short short = let e = stateOf-held s h in let l = lt-ltb _ _ short in reads-as _ before (rw (e, p, l) refl) (rw (e, p, l) refl)
+      reads-short short =
+          let e = stateOf-held s h in
+          let l = lt-ltb _ _ short in
+          reads-as _ before (rw (e, p, l) refl) (rw (e, p, l) refl)
 
-      pub reads-written : recordLength (s .figures .last) ≤ length before → Reads s before Written (recordOf (s .figures .last) ν ++ drop (recordLength (s .figures .last)) before)
+      pub reads-written : recordLength (s .figures .last) ≤ length before
+          → Reads s before Written (recordOf (s .figures .last) ν ++ drop (recordLength (s .figures .last)) before)
       unfolding readCall figuresOf
-      reads-written long = let e = stateOf-held s h in let l = le-ltb _ _ long in reads-as _ _ (rw (e, p, l) refl) (rw (e, p, l) refl)
+      reads-written long =
+          let e = stateOf-held s h in
+          let l = le-ltb _ _ long in
+          reads-as _ _ (rw (e, p, l) refl) (rw (e, p, l) refl)
