@@ -33,7 +33,7 @@ use Rattle.session.specs.Diagonal.{nonZero, DiagonalOf}
 use Rattle.session.specs.Fitted.{entry-of}
 use Rattle.session.specs.State.{Fits}
 use Rattle.session.specs.Calls.{Opens}
-use Rattle.session.specs.CallLaws.{opens-done}
+use Rattle.session.specs.OpenLaws.{opens-done}
 
 pub file-accepted : (file : Bytes) → fileCheck file ≡ clear → AcceptedFile file
 file-accepted file passed = file-clear file (ap isClear passed)

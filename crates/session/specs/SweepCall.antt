@@ -20,7 +20,7 @@ use Rattle.session.specs.declared.answers.SweepAnswer.the-variants.{Sett
 use Rattle.session.specs.State.{Fits}
 use Rattle.session.specs.StateLaws.{stateOf-held}
 use Rattle.session.specs.Calls.{Sweeps}
-use Rattle.session.specs.CallLaws.{sweeps-settled, sweeps-spent, sweeps-done, sweeps-going}
+use Rattle.session.specs.SweepLaws.{sweeps-settled, sweeps-spent, sweeps-done, sweeps-going}
 
 -- a sweep of an open file, with a number inside its limits and the mean that is held with its residues
 pub record OpenSweep (s : Session) (w : Working) (n : ℕ) : Type 0 where

@@ -17,7 +17,7 @@ use Rattle.chain.specs.Judge.{judgementOf, own-fits, judged}
 use Rattle.records.specs.Parse.{padded}
 use Rattle.session.specs.Bounds.{FrameFits}
 use Rattle.session.specs.State.{Fits, sessionAt}
-use Rattle.session.specs.CallLaws.{judges-closed, judges-refused, judges-passed, judges-fails}
+use Rattle.session.specs.JudgeLaws.{judges-closed, judges-refused, judges-passed, judges-fails}
 use Rattle.session.specs.Fitted.{asks-residues, held-inside, fits, frame, rows}
 use Rattle.session.specs.MeanOfRecord.{mean-inside, mean-is}
 use Rattle.session.proofs.lent.judge_lent.Statement.{statement}

@@ -12,7 +12,7 @@ use Rattle.chain.specs.Arrays.{figuresAt, figuresOf}
 use Rattle.session.specs.declared.Session.{Session}
 use Rattle.session.specs.Diagonal.{DiagonalOf}
 use Rattle.session.specs.State.{Fits, sessionHeld}
-use Rattle.session.specs.CallLaws.{opens-taken, opens-refused}
+use Rattle.session.specs.OpenLaws.{opens-taken, opens-refused}
 use Rattle.session.specs.OpenCall.{file-accepted, open-refuses, few-years, diagonal-clear, done, refuses-clear}
 use Rattle.session.proofs.lent.open_lent.Statement.{statement}
 use Rattle.session.proofs.lent.open_lent.Tie as tie

@@ -20,7 +20,7 @@ use Rattle.session.specs.declared.answers.ReadAnswer.the-variants.{Writt
 use Rattle.session.specs.Bounds.{FrameFits}
 use Rattle.session.specs.State.{Fits, sessionAt}
 use Rattle.session.specs.Calls.{Reads}
-use Rattle.session.specs.CallLaws.{reads-closed, reads-failing, reads-short, reads-written}
+use Rattle.session.specs.ReadLaws.{reads-closed, reads-failing, reads-short, reads-written}
 use Rattle.session.specs.Fitted.{asks-residues, held-inside, fits, frame, rows}
 use Rattle.session.proofs.lent.read_lent.Statement.{statement}
 use Rattle.session.proofs.lent.read_lent.Tie as tie

@@ -9,7 +9,7 @@ use Rattle.chain.specs.Sweeps.{started}
 use Rattle.session.specs.declared.Session.{Session}
 use Rattle.session.specs.Bounds.{FrameFits}
 use Rattle.session.specs.State.{Fits, sessionAt}
-use Rattle.session.specs.CallLaws.{sweeps-closed, sweeps-outside}
+use Rattle.session.specs.SweepLaws.{sweeps-closed, sweeps-outside}
 use Rattle.session.specs.Fitted.{asks-residues, held-inside, fits, frame, rows}
 use Rattle.session.proofs.lent.sweep_lent.Statement.{statement}
 use Rattle.session.proofs.lent.sweep_lent.Tie as tie
