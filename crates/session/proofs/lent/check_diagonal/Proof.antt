@@ -49,11 +49,12 @@ size-requires : tie.Need-size-requires Inv-loop μ-loop
 size-requires c κs = search needs
 
 -- the size of the entry
-entry : (c : tie.After-size Inv-loop μ-loop) → let l = c .before .before in c .size .result ≡ natAbs (cell (now (l .before .before .args .matrix)) (l .before .loop .k) (l .before .loop .k))
+entry : (c : tie.After-size Inv-loop μ-loop) → let l = c .before .before .before in
+    c .size .result ≡ natAbs (cell (now (l .before .args .matrix)) (l .loop .k) (l .loop .k))
 entry c =
-    let l = c .before .before in
-    let A = now (l .before .before .args .matrix) in
-    let k = l .before .loop .k in
+    let l = c .before .before .before in
+    let A = now (l .before .args .matrix) in
+    let k = l .loop .k in
     c .size .ensures ∙ ap natAbs (same (part A (31 * k + k)) (c .before .size-arg .given) ∙ sym (cell-at A k k (le-refl k)))
 
 returns : tie.Need-returns Inv-loop μ-loop

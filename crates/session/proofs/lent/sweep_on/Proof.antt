@@ -11,27 +11,50 @@ use Rattle.session.proofs.lent.sweep_on.Tie as tie
 
 -- the session that is lent
 abbrev S : tie.Start → Session
-S s = sessionAt (s .args .last) (s .args .closeness) (now (s .args .total)) (now (s .args .own)) (now (s .args .matrix)) (now (s .args .right-hand)) (now (s .args .mean))
+S s = let a = s .args in sessionAt (a .last) (a .closeness) (now (a .total)) (now (a .own)) (now (a .matrix)) (now (a .right-hand)) (now (a .mean))
+
+-- where the call starts, seen from where its mean is tested
+abbrev start : tie.After-passes → tie.Start
+start c = c .before .before .before .before
 
 passes-requires : tie.Need-passes-requires
-passes-requires c κs = own-fits (S (c .before .before .before) .figures) (c .before .before .before .pre .fits .fitting)
+passes-requires c κs = let s = c .before .before .before in own-fits (S s .figures) (s .pre .fits .fitting)
 
 returns : tie.Need-returns
-returns c = settled (S (c .before .before .before .before .before)) (c .before .before .before .before .before .args .n) (c .before .before .before .before .before .pre) (c .before .passes .ensures) (c .if1 .taken)
+returns c =
+    let tested = c .before in
+    let s = start tested in
+    settled (S s) (s .args .n) (s .pre) (tested .passes .ensures) (c .if1 .taken)
 
 returns-2 : tie.Need-returns-2
-returns-2 c = spent (S (c .before .before .before .before .before .before)) (c .before .before .before .before .before .before .args .n) (c .before .before .before .before .before .before .pre) (c .before .before .passes .ensures) (c .before .if1 .left) (omega (arith, c .if2 .taken))
+returns-2 c =
+    let failing = c .before in
+    let tested = failing .before in
+    let s = start tested in
+    spent (S s) (s .args .n) (s .pre) (tested .passes .ensures) (failing .if1 .left) (omega (arith, c .if2 .taken))
 
 sweeps-requires : tie.Need-sweeps-requires
-sweeps-requires c κs = record { fitting = c .before .before .before .before .before .before .pre .fits .fitting; holds = c .before .before .before .before .before .before .pre .holds-mean }
+sweeps-requires c κs = let asked = start (c .before .before) .pre in record { fitting = asked .fits .fitting; holds = asked .holds-mean }
 
 returns-3 : tie.Need-returns-3
 returns-3 c =
-    done (S (c .before .before .before .before .before .before .before .before .before .before)) (c .before .before .before .before .before .before .before .before .before .before .args .n) (c .before .before .before .before .before .before .before .before .before .before .pre) (c .before .before .before .before .before .before .passes .ensures) (c .before .before .before .before .before .if1 .left) (omega (arith, c .before .before .before .before .if2 .left)) (c .before .before .before .sweeps .ensures) (c .if3 .taken)
+    let swept = c .before .before .before in
+    let more = swept .before in
+    let failing = more .before in
+    let tested = failing .before in
+    let s = start tested in
+    done (S s) (s .args .n) (s .pre) (tested .passes .ensures) (failing .if1 .left) (omega (arith, more .if2 .left))
+    (swept .sweeps .ensures) (c .if3 .taken)
 
 returns-4 : tie.Need-returns-4
 returns-4 c =
-    still-going (S (c .before .before .before .before .before .before .before .before .before .before)) (c .before .before .before .before .before .before .before .before .before .before .args .n) (c .before .before .before .before .before .before .before .before .before .before .pre) (c .before .before .before .before .before .before .passes .ensures) (c .before .before .before .before .before .if1 .left) (omega (arith, c .before .before .before .before .if2 .left)) (c .before .before .before .sweeps .ensures) (c .if3 .left)
+    let swept = c .before .before .before in
+    let more = swept .before in
+    let failing = more .before in
+    let tested = failing .before in
+    let s = start tested in
+    still-going (S s) (s .args .n) (s .pre) (tested .passes .ensures) (failing .if1 .left) (omega (arith, more .if2 .left))
+    (swept .sweeps .ensures) (c .if3 .left)
 
 pub sweep-on-spec : {M : Type 1} → statement M
 sweep-on-spec =
