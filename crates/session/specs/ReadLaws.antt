@@ -17,7 +17,7 @@ use Rattle.chain.specs.Arrays.{figuresOf, meanOf}
 use Rattle.session.specs.declared.Session.{Session}
 use Rattle.session.specs.declared.answers.ReadAnswer.{ReadAnswer}
 use Rattle.session.specs.declared.answers.ReadAnswer.the-variants.{Written, Refused}
-use Rattle.session.specs.State.{Fits, stateOf}
+use Rattle.session.specs.State.{Fits, held, stateOf}
 use Rattle.session.specs.StateLaws.{stateOf-held, stateOf-empty}
 use Rattle.session.specs.Calls.{ofRead, readsTo, Reads}
 use Rattle.session.specs.Worth.{worth}
@@ -68,22 +68,19 @@ module _ (s : Session) (before : Bytes) where
     abbrev μ : List ℤ
     μ = meanOf (s .figures .last) (s .mean)
 
+    is-open : stateOf s ≡ held s
+    is-open = stateOf-held s h
+
     pub reads-failing : passes F (part μ) ≡ false → Reads s before (Refused 24 0) before
     unfolding readCall
-    reads-failing p = let e = stateOf-held s h in reads-as _ before (rw (e, p) refl) (rw (e, p) refl)
+    reads-failing p = reads-as _ before (rw (is-open, p) refl) (rw (is-open, p) refl)
 
     module _ (p : passes F (part μ) ≡ true) where
       pub reads-short : length before < recordLength (s .figures .last) → Reads s before (Refused 13 0) before
       unfolding readCall figuresOf
-      reads-short short =
-          let e = stateOf-held s h in
-          let l = lt-ltb _ _ short in
-          reads-as _ before (rw (e, p, l) refl) (rw (e, p, l) refl)
+      reads-short short = let l = lt-ltb _ _ short in reads-as _ before (rw (is-open, p, l) refl) (rw (is-open, p, l) refl)
 
       pub reads-written : recordLength (s .figures .last) ≤ length before
           → Reads s before Written (recordOf (s .figures .last) μ ++ drop (recordLength (s .figures .last)) before)
       unfolding readCall figuresOf
-      reads-written long =
-          let e = stateOf-held s h in
-          let l = le-ltb _ _ long in
-          reads-as _ _ (rw (e, p, l) refl) (rw (e, p, l) refl)
+      reads-written long = let l = le-ltb _ _ long in reads-as _ _ (rw (is-open, p, l) refl) (rw (is-open, p, l) refl)

@@ -1,4 +1,4 @@
--- `bounds::is_open` meets its contract: a session fits exactly if its frame and its rows do. Assumes nothing.
+-- `bounds::is_open` meets its contract: a session fits exactly if its frame and its rows do.
 use borrow.Author.Needs.{needs}
 use denote.Ref.{now}
 use Rattle.chain.specs.Decides.{decided-no, not-yes, not-no}

@@ -1,4 +1,4 @@
--- `bounds::part_fits` meets its contract: each test is one of the bounds. Assumes nothing.
+-- `bounds::part_fits` meets its contract: each test is one of the bounds.
 use mathlib.Core.Path.{_≡_, sym, ap, subst, _∙_}
 use native.Mathlib.Omega.{arith}
 use borrow.Author.Needs.{needs}

@@ -1,4 +1,4 @@
--- `bounds::parts_fit` meets its contract. The loop's invariant: the parts before k fit. The measure is how many are left. Assumes nothing.
+-- `bounds::parts_fit` meets its contract. The loop's invariant: the parts before k fit. The measure is how many are left.
 use Prim.Native.Nat.{ℕ, _+_, _*_, _-_, _≤_, _<_}
 use mathlib.Core.Path.{sym, _∙_, subst₃}
 use mathlib.Core.List.{List}

@@ -1,5 +1,5 @@
--- `lent::check_diagonal` meets its contract. The loop's invariant: the entries from k on give what all of them give. The measure is how many are
--- left. Assumes nothing.
+-- `lent::check_diagonal` meets its contract. The loop's invariant: the entries from k on give what all of them give. The measure
+-- is how many are left.
 use Prim.Native.Nat.{_+_, _*_, _-_}
 use mathlib.Core.Path.{_≡_, sym, ap, _∙_}
 use mathlib.Core.Bool.{not}

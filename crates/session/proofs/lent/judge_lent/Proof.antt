@@ -1,5 +1,5 @@
--- `lent::judge_lent` meets its contract: after 21 and the checks of the record, the judgement is that of the mean that the record holds. Assumes
--- nothing.
+-- `lent::judge_lent` meets its contract: after 21 and the checks of the record, the judgement is that of the mean that the record
+-- holds.
 use mathlib.Core.Path.{_≡_, sym, ap, _∙_}
 use mathlib.Core.List.{List}
 use native.Mathlib.Omega.{arith}

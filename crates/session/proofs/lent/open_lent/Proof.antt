@@ -1,5 +1,5 @@
--- `lent::open_lent` meets its contract: after 22 and the checks of the file, its figures and the prior means are held. Check 16 refuses none of the files
--- that come to it. Assumes nothing.
+-- `lent::open_lent` meets its contract: after 22 and the checks of the file, its figures and the prior means are held. Check 16
+-- refuses none of the files that come to it.
 use Prim.Native.Nat.{ℕ}
 use mathlib.Core.Path.{_≡_, sym, ap, subst, subst₂, _∙_}
 use native.Mathlib.Omega.{arith}

@@ -1,4 +1,4 @@
--- `lent::sweep_lent` meets its contract: 21 and 12 come before the sweeps of an open file. Assumes nothing.
+-- `lent::sweep_lent` meets its contract: 21 and 12 come before the sweeps of an open file.
 use mathlib.Core.Path.{refl}
 use native.Mathlib.Omega.{arith}
 use borrow.Author.Needs.{needs}

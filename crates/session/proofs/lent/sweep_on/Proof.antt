@@ -1,7 +1,9 @@
--- `lent::sweep_on` meets its contract: the mean that is held is tested before the first sweep, and what is held afterwards is the mean and the total of the
--- sweeps. Assumes nothing.
+-- `lent::sweep_on` meets its contract: the mean that is held is tested before the first sweep, and what is held afterwards is the
+-- mean and the total of the sweeps.
+use Prim.Native.Nat.{_<_}
 use native.Mathlib.Omega.{arith}
 use denote.Ref.{now}
+use Rattle.definitions.specs.Sweep.{sweepLimit}
 use Rattle.chain.specs.Judge.{own-fits}
 use Rattle.session.specs.declared.Session.{Session}
 use Rattle.session.specs.State.{sessionAt}
@@ -36,25 +38,28 @@ returns-2 c =
 sweeps-requires : tie.Need-sweeps-requires
 sweeps-requires c κs = let asked = start (c .before .before) .pre in record { fitting = asked .fits .fitting; holds = asked .holds-mean }
 
+-- sweeps are run
+module _ (c : tie.After-sweeps) where
+  abbrev failing : tie.Else1
+  failing = c .before .before
+
+  abbrev s : tie.Start
+  s = start (failing .before)
+
+  more : S s .total < sweepLimit
+  more = omega (arith, c .before .if2 .left)
+
 returns-3 : tie.Need-returns-3
 returns-3 c =
-    let swept = c .before .before .before in
-    let more = swept .before in
-    let failing = more .before in
-    let tested = failing .before in
-    let s = start tested in
-    done (S s) (s .args .n) (s .pre) (tested .passes .ensures) (failing .if1 .left) (omega (arith, more .if2 .left))
-    (swept .sweeps .ensures) (c .if3 .taken)
+    let ran = c .before .before .before in
+    done (S (s ran)) (s ran .args .n) (s ran .pre) (failing ran .before .passes .ensures) (failing ran .if1 .left) (more ran)
+    (ran .sweeps .ensures) (c .if3 .taken)
 
 returns-4 : tie.Need-returns-4
 returns-4 c =
-    let swept = c .before .before .before in
-    let more = swept .before in
-    let failing = more .before in
-    let tested = failing .before in
-    let s = start tested in
-    still-going (S s) (s .args .n) (s .pre) (tested .passes .ensures) (failing .if1 .left) (omega (arith, more .if2 .left))
-    (swept .sweeps .ensures) (c .if3 .left)
+    let ran = c .before .before .before in
+    still-going (S (s ran)) (s ran .args .n) (s ran .pre) (failing ran .before .passes .ensures) (failing ran .if1 .left) (more ran)
+    (ran .sweeps .ensures) (c .if3 .left)
 
 pub sweep-on-spec : {M : Type 1} → statement M
 sweep-on-spec =
