@@ -5,7 +5,7 @@ use mathlib.Core.Logic.{_≢_}
 use mathlib.Core.List.{List}
 use native.Mathlib.Omega.{arith}
 use lib.ListN.{getD}
-use Rattle.definitions.specs.Layout.{Bytes, lastYear, rowAt, rowLength}
+use Rattle.definitions.specs.Layout.{Bytes, lastYear}
 use Rattle.definitions.specs.Refusals.{clear, refuses, rowCheck}
 use Rattle.definitions.specs.Matrix as D
 use Rattle.definitions.specs.Machine.{Answer, refused, rowPart}
@@ -89,7 +89,8 @@ sweeps-told s n a t h {r} e = record {
   same = λ some. by-answer a (h .same) (λ none. some (ap (λ x. x .refusal .number) e ∙ none));
   worth = λ f μ ν total before then one.
       h .worth f μ ν total (r .total) before then (is-settled a (sym flag ∙ one) ∙ ap S.Settled (sym (ap (λ x. x .total) e)));
-  rounded = λ f μ ν total after before then w near. flag ∙ ap (λ x. told (ofSweep x) .passing) (h .rounded f μ ν total after before then w near);
+  rounded = λ f μ ν total after before then w near.
+      flag ∙ ap (λ x. told (ofSweep x) .passing) (h .rounded f μ ν total after before then w near);
 }
   where
     flag : r .settled ≡ told (ofSweep a) .passing

@@ -5,7 +5,11 @@ pub mod StateLaws
 pub mod Fitted
 pub mod Diagonal
 pub mod Calls
-pub mod CallLaws
+pub mod Worth
+pub mod OpenLaws
+pub mod JudgeLaws
+pub mod SweepLaws
+pub mod ReadLaws
 pub mod Pinned
 pub mod MeanOfRecord
 pub mod SweepCall

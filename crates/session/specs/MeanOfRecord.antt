@@ -1,6 +1,7 @@
--- The parts of a record that no check refuses are inside the limits: so the mean of 31 parts that the code reads from it is the definitions' mean, and fits.
+-- The parts of a record that no check refuses are inside the limits: so the mean of 31 parts that the code reads from it is the
+-- definitions' mean, and fits.
 use Prim.Native.Nat.{ℕ, _-_, _≤_, _<_}
-use mathlib.Core.Path.{_≡_, sym, ap, subst, _∙_}
+use mathlib.Core.Path.{_≡_, sym, ap, _∙_}
 use mathlib.Core.List.{List}
 use native.Mathlib.Omega.{arith}
 use lib.IntN.{ℤ, pos, natAbs}
@@ -24,13 +25,14 @@ module _ (last : ℕ) (r : Bytes) (passed : recordCheck last r ≡ clear) where
   part-small : (k : ℕ) → k < parts last → natAbs (signed (partAt k) r) ≤ partLimit
   part-small k below =
       let all = then-clear (recordHead last r) (partsCheck last r) (sym (record-checks last r) ∙ passed) .1 in
-      leb→le (natAbs (signed (partAt k) r)) partLimit (fields-clear (λ i. goodPart (signed (partAt i) r)) 11 partAt 0 (parts last) (ap isClear all) k (omega arith) (omega arith))
+      leb→le (natAbs (signed (partAt k) r)) partLimit
+      (fields-clear (λ i. goodPart (signed (partAt i) r)) 11 partAt 0 (parts last) (ap isClear all) k (omega arith) (omega arith))
 
   part-is : (k : ℕ) → k < parts last → part (padded last r) k ≡ signed (partAt k) r
   part-is k below = part-padded (D.meanOf last r) (31 - parts last) k ∙ tab-at (parts last) (λ i. signed (partAt i) r) k (pos 0) below
 
   pub mean-inside : {m : List ℤ} → m ≡ padded last r → Inside (parts last) m
-  mean-inside e = record { small = λ k below. subst (λ z. natAbs z ≤ partLimit) (sym (ap (λ l. part l k) e ∙ part-is k below)) (part-small k below) }
+  mean-inside e = record { small = λ k below. rw (e, part-is k below) (part-small k below) }
 
   pub mean-is : {m : List ℤ} → m ≡ padded last r → meanOf last m ≡ D.meanOf last r
   mean-is e = ap (meanOf last) e ∙ tab-cong 0 (parts last) (λ k from below. part-is k (omega arith))

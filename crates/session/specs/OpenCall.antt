@@ -1,4 +1,5 @@
--- What opening a file that the checks let pass gives: figures that fit, a diagonal that check 16 does not refuse, and the prior means as mean.
+-- What opening a file that the checks let pass gives: figures that fit, a diagonal that check 16 does not refuse, and the prior
+-- means as mean.
 use Prim.Native.Nat.{ℕ, zero, suc, _≤_, _<_}
 use mathlib.Core.Path.{_≡_, refl, sym, ap, subst, _∙_}
 use mathlib.Core.Bool.{true, not}
@@ -11,7 +12,7 @@ use lib.IntN.{ℤ, pos, negsuc, natAbs}
 use lib.Signed.{_≤ℤ_}
 use Rattle.definitions.specs.Words.{part, tabFrom}
 use Rattle.definitions.specs.Layout.{Bytes, lastYear, parts, priorMean}
-use Rattle.definitions.specs.Refusals.{yearLimit, partLimit, clear, refuses, fileCheck}
+use Rattle.definitions.specs.Refusals.{yearLimit, clear, refuses, fileCheck}
 use Rattle.definitions.specs.Matrix as D
 use Rattle.definitions.specs.Matrix.{entry}
 use Rattle.definitions.specs.Machine.{isClear, openCheck}
@@ -32,7 +33,7 @@ use Rattle.session.specs.Diagonal.{nonZero, DiagonalOf}
 use Rattle.session.specs.Fitted.{entry-of}
 use Rattle.session.specs.State.{Fits}
 use Rattle.session.specs.Calls.{Opens}
-use Rattle.session.specs.CallLaws.{opens-done}
+use Rattle.session.specs.OpenLaws.{opens-done}
 
 pub file-accepted : (file : Bytes) → fileCheck file ≡ clear → AcceptedFile file
 file-accepted file passed = file-clear file (ap isClear passed)
@@ -69,7 +70,7 @@ module _ (file : Bytes) (passed : fileCheck file ≡ clear) (F : Figures) (same 
 
   pub diagonal-clear : {r : Check} → DiagonalOf (F .last) (F .matrix) r → told r ≡ clear
   diagonal-clear h = h .is ∙ fields-clear (nonZero (F .matrix)) 16 (λ k. 0) 0 (parts (F .last))
-      (λ k below. rw (zero-add k) (not-zero (cell (F .matrix) k k) (subst (λ z. pos 1 ≤ℤ z) (entry-of F k k below below) (diagonal k below))))
+      (λ k below. rw (zero-add k) (not-zero (cell (F .matrix) k k) (rw (entry-of F k k below below) at (diagonal k below))))
 
   module _ (mean : List ℤ) (priors : PriorMeans file mean) where
     abbrev after : Session
@@ -82,12 +83,16 @@ module _ (file : Bytes) (passed : fileCheck file ≡ clear) (F : Figures) (same 
     after-fits = record {
       holding = omega (arith, same-year, file-accepted file passed .years .from);
       fitting = fitting;
-      inside = record { small = λ k below. subst (λ z. natAbs z ≤ partLimit) (sym (part-is k below)) (file-accepted file passed .prior-means k (omega (arith, same-year))) };
+      inside = record {
+        small = λ k below. rw (part-is k below) (file-accepted file passed .prior-means k (omega (arith, same-year)));
+      };
       few = omega arith;
     }
 
     mean-is : meanOf (F .last) mean ≡ tabFrom 0 (parts (lastYear file)) (priorMean file)
-    mean-is = tab-cong 0 (parts (F .last)) (λ k from below. part-is k (omega arith)) ∙ ap (λ J. tabFrom 0 (parts J) (priorMean file)) same-year
+    mean-is =
+        tab-cong 0 (parts (F .last)) (λ k from below. part-is k (omega arith))
+        ∙ ap (λ J. tabFrom 0 (parts J) (priorMean file)) same-year
 
     pub done : (s : Session) → ¬ Fits s → Opens s file (record { answer = Opened; session = after })
     done s closed = opens-done s file closed (open-clear file passed) after after-fits same mean-is refl

@@ -1,7 +1,6 @@
 -- The calls' contracts at the limits of demand 3, in plain numbers, each drawn from the contract alone: what callers can count on.
 use Prim.Native.Nat.{ℕ, _+_, _*_, _≤_, _<_}
 use mathlib.Core.Path.{_≡_, refl, sym}
-use mathlib.Core.Bool.{true}
 use mathlib.Core.List.{List}
 use native.Mathlib.Nat.{le-of-eq}
 use native.Mathlib.Omega.{arith}
@@ -33,7 +32,8 @@ module _ (f : Bytes) where
   -- with a closeness of 3: the loss of a mean is at most that of u/m and nine times the sum of own weights
   abbrev ByNine : Vector → Type 0
   ByNine μ = (m : ℕ) (u : Vector) → 1 ≤ m
-      → (pos (m * m) *ℤ loss (chainOf f) μ) ≤ℤ (lossTimes (chainOf f) m u +ℤ pos (m * m * (9 * total (2 * lastYear f + 1) (own (chainOf f)))))
+      → (pos (m * m) *ℤ loss (chainOf f) μ)
+      ≤ℤ (lossTimes (chainOf f) m u +ℤ pos (m * m * (9 * total (2 * lastYear f + 1) (own (chainOf f)))))
 
   by-nine : closeness f ≡ 3 → {μ : Vector} → Guarantee f μ → ByNine μ
   by-nine close worth m u some = rw close at (worth .nearly-least m u some)

@@ -1,14 +1,13 @@
 -- A session that the calls reach is never turned away by the test of the bounds.
-use Prim.Native.Nat.{ℕ, _≤_, _<_}
+use Prim.Native.Nat.{ℕ, _<_}
 use mathlib.Core.Path.{_≡_, sym, ap, subst, _∙_}
 use mathlib.Core.List.{List}
 use native.Mathlib.Omega.{arith}
-use lib.IntN.{ℤ, pos, natAbs}
+use lib.IntN.{ℤ, pos}
 use Rattle.definitions.specs.Words.{part}
 use Rattle.definitions.specs.Layout.{Bytes, parts, lastYear}
-use Rattle.definitions.specs.Refusals.{partLimit}
 use Rattle.definitions.specs.Matrix as D
-use Rattle.definitions.specs.Machine.{State, empty, holds, Call}
+use Rattle.definitions.specs.Machine.{empty, holds, Call}
 use Rattle.laws.specs.Accepted.{accepted-file}
 use Rattle.laws.specs.Judged.{tab-at}
 use Rattle.laws.specs.MachineLaws.{Good, after, reached-good}
@@ -37,10 +36,11 @@ module _ (s : Session) (f : Bytes) (μ : List ℤ) (total : ℕ) (keeps : Keeps 
   good-fits g = record {
     holding = omega (arith, same-year, accepted-file f (g .0) .years .from);
     fitting = subst Fitting (sym (keeps .figures)) (accepted-fits f (g .0));
-    inside = record { small = λ k below. subst (λ z. natAbs z ≤ partLimit) (sym (part-is k below)) (g .1 .inside k) };
+    inside = record { small = λ k below. rw (part-is k below) (g .1 .inside k) };
     few = omega (arith, keeps .count, g .2);
   }
 
 -- every state that calls reach from the empty one is good, and so is not turned away
-pub reached-fits : (calls : List Call) (f : Bytes) (μ : List ℤ) (total : ℕ) → after empty calls ≡ holds f μ total → (s : Session) → Keeps s f μ total → Fits s
+pub reached-fits : (calls : List Call) (f : Bytes) (μ : List ℤ) (total : ℕ) → after empty calls ≡ holds f μ total
+    → (s : Session) → Keeps s f μ total → Fits s
 reached-fits calls f μ total e s keeps = good-fits s f μ total keeps (subst Good e (reached-good calls))

@@ -20,7 +20,7 @@ use Rattle.session.specs.declared.answers.SweepAnswer.the-variants.{Sett
 use Rattle.session.specs.State.{Fits}
 use Rattle.session.specs.StateLaws.{stateOf-held}
 use Rattle.session.specs.Calls.{Sweeps}
-use Rattle.session.specs.CallLaws.{sweeps-settled, sweeps-spent, sweeps-done, sweeps-going}
+use Rattle.session.specs.SweepLaws.{sweeps-settled, sweeps-spent, sweeps-done, sweeps-going}
 
 -- a sweep of an open file, with a number inside its limits and the mean that is held with its residues
 pub record OpenSweep (s : Session) (w : Working) (n : ℕ) : Type 0 where
@@ -37,13 +37,16 @@ module _ (s : Session) (n : ℕ) where
   abbrev μ : List ℤ
   μ = meanOf (s .figures .last) (s .mean)
 
-  module _ {w : Working} (h : OpenSweep s w n) {p : Bool} (tested : Passes (s .figures .last) (s .figures .closeness) (s .figures .own) (w .residues) p) where
+  module _ {w : Working} (h : OpenSweep s w n) {p : Bool}
+      (tested : Passes (s .figures .last) (s .figures .closeness) (s .figures .own) (w .residues) p) where
     number-inside : within 1 sweepLimit n ≡ true
     number-inside = within-yes refl (h .from) (h .to)
 
     -- the mean that is held passes or fails as its residues do
     held-passes : passes F (part μ) ≡ p
-    held-passes = ap (λ m. passes F (part (meanOf (s .figures .last) m))) (sym (h .mean)) ∙ sym (passes-is (s .figures) w (h .holds-mean) tested)
+    held-passes =
+        ap (λ m. passes F (part (meanOf (s .figures .last) m))) (sym (h .mean))
+        ∙ sym (passes-is (s .figures) w (h .holds-mean) tested)
 
     pub settled : p ≡ true → Sweeps s n (record { answer = Settled (s .total); session = s })
     settled e = sweeps-settled s n (h .fits) number-inside (held-passes ∙ e)
@@ -71,7 +74,11 @@ module _ (s : Session) (n : ℕ) where
       }
 
       pub done : r .passes ≡ true → Sweeps s n (record { answer = Settled (r .total); session = after })
-      done passing = sweeps-done s n (h .fits) number-inside (held-passes ∙ e) more after ν (stateOf-held after after-fits) end (sym (swept .passing) ∙ passing)
+      done passing =
+          sweeps-done s n (h .fits) number-inside (held-passes ∙ e) more after ν (stateOf-held after after-fits) end
+          (sym (swept .passing) ∙ passing)
 
       pub still-going : r .passes ≡ false → Sweeps s n (record { answer = Going (r .total); session = after })
-      still-going failing = sweeps-going s n (h .fits) number-inside (held-passes ∙ e) more after ν (stateOf-held after after-fits) end (sym (swept .passing) ∙ failing)
+      still-going failing =
+          sweeps-going s n (h .fits) number-inside (held-passes ∙ e) more after ν (stateOf-held after after-fits) end
+          (sym (swept .passing) ∙ failing)

@@ -59,7 +59,9 @@ pub fn frame_fits<'a>(
     right_hand: &'a [i64; 31],
     mean: &'a [i64; 31],
 ) -> bool
-    ensures { λ r. ⌜ Decides (FrameFits last closeness total (now (own .entry)) (now (matrix .entry)) (now («right_hand» .entry)) (now (mean .entry))) r ⌝ }
+    ensures { λ r. ⌜ Decides
+        (FrameFits last closeness total (now (own .entry)) (now (matrix .entry)) (now («right_hand» .entry)) (now (mean .entry)))
+        r ⌝ }
 {
     if last < 1 {
         return false;
@@ -86,7 +88,9 @@ pub fn is_open<'a>(
     right_hand: &'a [i64; 31],
     mean: &'a [i64; 31],
 ) -> bool
-    ensures { λ r. ⌜ Decides (Fits (sessionAt last closeness total (now (own .entry)) (now (matrix .entry)) (now («right_hand» .entry)) (now (mean .entry)))) r ⌝ }
+    ensures { λ r. ⌜ Decides
+        (Fits (sessionAt last closeness total (now (own .entry)) (now (matrix .entry)) (now («right_hand» .entry)) (now (mean .entry))))
+        r ⌝ }
 {
     if !frame_fits(last, closeness, total, own, matrix, right_hand, mean) {
         return false;

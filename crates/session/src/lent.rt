@@ -38,7 +38,9 @@ pub fn judge_lent<'a>(
     mean: &'a [i64; 31],
     lent: &'a [u8],
 ) -> JudgeAnswer
-    ensures { λ r. ⌜ Judges (sessionAt last closeness total (now (own .entry)) (now (matrix .entry)) (now («right_hand» .entry)) (now (mean .entry))) (now (lent .entry)) r ⌝ }
+    ensures { λ r. ⌜ Judges
+        (sessionAt last closeness total (now (own .entry)) (now (matrix .entry)) (now («right_hand» .entry)) (now (mean .entry)))
+        (now (lent .entry)) r ⌝ }
 {
     if !frame_fits(last, closeness, total, own, matrix, right_hand, mean) {
         return JudgeAnswer::Refused(21, 0);
@@ -76,8 +78,15 @@ pub fn sweep_lent<'a>(
     total: &'a mut u64,
     n: u64,
 ) -> SweepAnswer
-    ensures { λ r. ⌜ Sweeps (sessionAt last closeness (now (total .entry)) (now (own .entry)) (now (matrix .entry)) (now («right_hand» .entry)) (now (mean .entry))) n
-        (record { answer = r; session = sessionAt last closeness (now (total .exit)) (now (own .entry)) (now (matrix .entry)) (now («right_hand» .entry)) (now (mean .exit)) }) ⌝ }
+    ensures { λ r. ⌜ Sweeps
+        (sessionAt last closeness (now (total .entry))
+        (now (own .entry)) (now (matrix .entry)) (now («right_hand» .entry)) (now (mean .entry)))
+        n
+        (record {
+          answer = r;
+          session = sessionAt last closeness (now (total .exit))
+              (now (own .entry)) (now (matrix .entry)) (now («right_hand» .entry)) (now (mean .exit));
+        }) ⌝ }
 {
     let before = *total;
     let held = *mean;
@@ -125,8 +134,15 @@ fn sweep_on<'a>(
     n: u64,
 ) -> SweepAnswer
     requires { ⌜ OpenSweep (sessionAt last closeness (now total) (now own) (now matrix) (now «right_hand») (now mean)) working n ⌝ }
-    ensures { λ r. ⌜ Sweeps (sessionAt last closeness (now (total .entry)) (now (own .entry)) (now (matrix .entry)) (now («right_hand» .entry)) (now (mean .entry))) n
-        (record { answer = r; session = sessionAt last closeness (now (total .exit)) (now (own .entry)) (now (matrix .entry)) (now («right_hand» .entry)) (now (mean .exit)) }) ⌝ }
+    ensures { λ r. ⌜ Sweeps
+        (sessionAt last closeness (now (total .entry))
+        (now (own .entry)) (now (matrix .entry)) (now («right_hand» .entry)) (now (mean .entry)))
+        n
+        (record {
+          answer = r;
+          session = sessionAt last closeness (now (total .exit))
+              (now (own .entry)) (now (matrix .entry)) (now («right_hand» .entry)) (now (mean .exit));
+        }) ⌝ }
 {
     let before = *total;
     if passes(last, closeness, own, &working.residues) {
@@ -157,7 +173,9 @@ pub fn read_lent<'a>(
     mean: &'a [i64; 31],
     buffer: &'a mut [u8],
 ) -> ReadAnswer
-    ensures { λ r. ⌜ Reads (sessionAt last closeness total (now (own .entry)) (now (matrix .entry)) (now («right_hand» .entry)) (now (mean .entry))) (now (buffer .entry)) r (now (buffer .exit)) ⌝ }
+    ensures { λ r. ⌜ Reads
+        (sessionAt last closeness total (now (own .entry)) (now (matrix .entry)) (now («right_hand» .entry)) (now (mean .entry)))
+        (now (buffer .entry)) r (now (buffer .exit)) ⌝ }
 {
     if !frame_fits(last, closeness, total, own, matrix, right_hand, mean) {
         return ReadAnswer::Refused(21, 0);
@@ -202,8 +220,14 @@ pub fn open_lent<'a>(
     mean: &'a mut [i64; 31],
     file: &'a [u8],
 ) -> OpenAnswer
-    ensures { λ r. ⌜ Opens (sessionHeld (now (held .entry)) (now (own .entry)) (now (matrix .entry)) (now («right_hand» .entry)) (now (mean .entry))) (now (file .entry))
-        (record { answer = r; session = sessionHeld (now (held .exit)) (now (own .exit)) (now (matrix .exit)) (now («right_hand» .exit)) (now (mean .exit)) }) ⌝ }
+    ensures { λ r. ⌜ Opens
+        (sessionHeld (now (held .entry)) (now (own .entry)) (now (matrix .entry)) (now («right_hand» .entry)) (now (mean .entry)))
+        (now (file .entry))
+        (record {
+          answer = r;
+          session = sessionHeld
+              (now (held .exit)) (now (own .exit)) (now (matrix .exit)) (now («right_hand» .exit)) (now (mean .exit));
+        }) ⌝ }
 {
     if is_open(
         held[0] as usize,

@@ -1,5 +1,5 @@
--- `answers::read_told` meets its contract, case by case. Assumes nothing.
-use mathlib.Core.Path.{_≡_, sym, ap, _∙_}
+-- `answers::read_told` meets its contract, case by case.
+use mathlib.Core.Path.{sym, ap, _∙_}
 use borrow.Author.Needs.{needs}
 use Rattle.session.specs.Calls.{ofRead}
 use Rattle.desk.specs.Told.{refusalTold}

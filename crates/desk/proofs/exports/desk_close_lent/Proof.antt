@@ -1,4 +1,4 @@
--- `exports::desk_close_lent` meets its contract: J is 0. Assumes nothing.
+-- `exports::desk_close_lent` meets its contract: J is 0.
 use Rattle.desk.specs.CallLaws.{closed}
 use mathlib.Core.Path.{refl}
 use mathlib.Core.List.{[], _∷_}

@@ -1,4 +1,4 @@
--- `exports::desk_row` meets its contract: it tells the refusal, or where the row stands. Assumes nothing.
+-- `exports::desk_row` meets its contract: it tells the refusal, or where the row stands.
 use mathlib.Core.Path.{_≡_, sym, ap, _∙_}
 use borrow.Author.Needs.{needs}
 use denote.Ref.{now}

@@ -1,4 +1,5 @@
--- `exports::desk_sweep_lent` meets its contract: its answer stands for the session's, and what it leaves is the session afterwards. Assumes nothing.
+-- `exports::desk_sweep_lent` meets its contract: its answer stands for the session's, and what it leaves is the session
+-- afterwards.
 use borrow.Author.Needs.{needs}
 use Rattle.desk.specs.CallLaws.{sweeps-told}
 use Rattle.desk.proofs.exports.desk_sweep_lent.Statement.{statement}

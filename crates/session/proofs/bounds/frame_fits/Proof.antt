@@ -1,4 +1,4 @@
--- `bounds::frame_fits` meets its contract: its tests are the bounds of the frame. Assumes nothing.
+-- `bounds::frame_fits` meets its contract: its tests are the bounds of the frame.
 use native.Mathlib.Omega.{arith}
 use borrow.Author.Needs.{needs}
 use Rattle.chain.specs.Decides.{decided-no}

@@ -1,4 +1,4 @@
--- `bounds::is_open` meets its contract: a session fits exactly if its frame and its rows do. Assumes nothing.
+-- `bounds::is_open` meets its contract: a session fits exactly if its frame and its rows do.
 use borrow.Author.Needs.{needs}
 use denote.Ref.{now}
 use Rattle.chain.specs.Decides.{decided-no, not-yes, not-no}
@@ -14,7 +14,8 @@ returns : tie.Need-returns
 returns c = decided-no (λ h. c .before .frame-fits .ensures .when-no (not-yes (c .if1 .taken)) (frame h))
 
 -- the frame fits
-framed : (c : tie.Else1) → let s = c .before .before .args in FrameFits (s .last) (s .closeness) (s .total) (now (s .own)) (now (s .matrix)) (now (s .right-hand)) (now (s .mean))
+framed : (c : tie.Else1) → let s = c .before .before .args in
+    FrameFits (s .last) (s .closeness) (s .total) (now (s .own)) (now (s .matrix)) (now (s .right-hand)) (now (s .mean))
 framed c = c .before .frame-fits .ensures .when-yes (not-no (c .if1 .left))
 
 residues-requires : tie.Need-residues-requires

@@ -1,9 +1,11 @@
--- `bounds::parts_fit` meets its contract. The loop's invariant: the parts before k fit. The measure is how many are left. Assumes nothing.
+-- `bounds::parts_fit` meets its contract. The loop's invariant: the parts before k fit. The measure is how many are left.
 use Prim.Native.Nat.{ℕ, _+_, _*_, _-_, _≤_, _<_}
 use mathlib.Core.Path.{sym, _∙_, subst₃}
+use mathlib.Core.List.{List}
 use native.Mathlib.Nat.{le-refl}
 use native.Mathlib.Omega.{arith}
 use borrow.Author.Needs.{needs}
+use lib.IntN.{ℤ}
 use lib.ListN.{getD}
 use denote.Ref.{now}
 use Rattle.definitions.specs.Words.{part}
@@ -38,15 +40,24 @@ module _ (c : tie.After-part-fits Inv-loop μ-loop) where
   abbrev k : ℕ
   k = l .before .loop .k
 
+  abbrev A : List ℤ
+  A = now (s .args .matrix)
+
+  abbrev b : List ℤ
+  b = now (s .args .right-hand)
+
+  abbrev μ : List ℤ
+  μ = now (s .args .mean)
+
   abbrev FitsAt : ℕ → Type 0
-  FitsAt j = PartFits (getD (now (s .args .own)) j 0) (cell (now (s .args .matrix)) j j) (part (now (s .args .right-hand)) j) (part (now (s .args .mean)) j)
+  FitsAt j = PartFits (getD (now (s .args .own)) j 0) (cell A j j) (part b j) (part μ j)
 
   decided : Decides (FitsAt k) (c .part-fits .result)
   decided =
-      subst₃ (λ d b m. Decides (PartFits (getD (now (s .args .own)) k 0) d b m) (c .part-fits .result))
-      (same (part (now (s .args .matrix)) (31 * k + k)) (c .before .before .before .part-fits-arg2 .given) ∙ sym (cell-at (now (s .args .matrix)) k k (le-refl k)))
-      (same (part (now (s .args .right-hand)) k) (c .before .before .part-fits-arg3 .given))
-      (same (part (now (s .args .mean)) k) (c .before .part-fits-arg4 .given))
+      subst₃ (λ d r m. Decides (PartFits (getD (now (s .args .own)) k 0) d r m) (c .part-fits .result))
+      (same (part A (31 * k + k)) (c .before .before .before .part-fits-arg2 .given) ∙ sym (cell-at A k k (le-refl k)))
+      (same (part b k) (c .before .before .part-fits-arg3 .given))
+      (same (part μ k) (c .before .part-fits-arg4 .given))
       (c .part-fits .ensures)
 
 mul-part-fits : tie.Need-mul-part-fits Inv-loop μ-loop

@@ -1,5 +1,5 @@
--- `lent::check_diagonal` meets its contract. The loop's invariant: the entries from k on give what all of them give. The measure is how many are
--- left. Assumes nothing.
+-- `lent::check_diagonal` meets its contract. The loop's invariant: the entries from k on give what all of them give. The measure
+-- is how many are left.
 use Prim.Native.Nat.{_+_, _*_, _-_}
 use mathlib.Core.Path.{_≡_, sym, ap, _∙_}
 use mathlib.Core.Bool.{not}
@@ -49,11 +49,12 @@ size-requires : tie.Need-size-requires Inv-loop μ-loop
 size-requires c κs = search needs
 
 -- the size of the entry
-entry : (c : tie.After-size Inv-loop μ-loop) → let l = c .before .before in c .size .result ≡ natAbs (cell (now (l .before .before .args .matrix)) (l .before .loop .k) (l .before .loop .k))
+entry : (c : tie.After-size Inv-loop μ-loop) → let l = c .before .before .before in
+    c .size .result ≡ natAbs (cell (now (l .before .args .matrix)) (l .loop .k) (l .loop .k))
 entry c =
-    let l = c .before .before in
-    let A = now (l .before .before .args .matrix) in
-    let k = l .before .loop .k in
+    let l = c .before .before .before in
+    let A = now (l .before .args .matrix) in
+    let k = l .loop .k in
     c .size .ensures ∙ ap natAbs (same (part A (31 * k + k)) (c .before .size-arg .given) ∙ sym (cell-at A k k (le-refl k)))
 
 returns : tie.Need-returns Inv-loop μ-loop

@@ -1,24 +1,25 @@
--- `lent::judge_lent` meets its contract: after 21 and the checks of the record, the judgement is that of the mean that the record holds. Assumes
--- nothing.
+-- `lent::judge_lent` meets its contract: after 21 and the checks of the record, the judgement is that of the mean that the record
+-- holds.
 use mathlib.Core.Path.{_≡_, sym, ap, _∙_}
+use mathlib.Core.List.{List}
 use native.Mathlib.Omega.{arith}
 use borrow.Author.Needs.{needs}
 use denote.Ref.{now}
+use lib.IntN.{ℤ}
 use Rattle.definitions.specs.Words.{part}
 use Rattle.definitions.specs.Refusals.{clear, recordCheck}
 use Rattle.definitions.specs.Layout as D
-use Rattle.definitions.specs.Matrix.{judgement}
+use Rattle.definitions.specs.Matrix.{Judgement, judgement}
 use Rattle.layout.specs.Checks.{told}
 use Rattle.layout.specs.CheckLaws.{passed}
-use Rattle.chain.specs.declared.arrays.Figures.{Figures}
-use Rattle.chain.specs.Arrays.{figuresAt, figuresOf}
+use Rattle.chain.specs.Arrays.{figuresOf}
 use Rattle.chain.specs.Decides.{not-yes, not-no}
 use Rattle.chain.specs.Judge.{judgementOf, own-fits, judged}
 use Rattle.records.specs.Parse.{padded}
-use Rattle.session.specs.Bounds.{FrameFits}
+use Rattle.session.specs.declared.Session.{Session}
 use Rattle.session.specs.State.{Fits, sessionAt}
-use Rattle.session.specs.CallLaws.{judges-closed, judges-refused, judges-passed, judges-fails}
-use Rattle.session.specs.Fitted.{asks-residues, held-inside, fits, frame, rows}
+use Rattle.session.specs.JudgeLaws.{judges-closed, judges-refused, judges-passed, judges-fails}
+use Rattle.session.specs.Fitted.{Framed, asks-residues, held-inside, fits, frame, rows}
 use Rattle.session.specs.MeanOfRecord.{mean-inside, mean-is}
 use Rattle.session.proofs.lent.judge_lent.Statement.{statement}
 use Rattle.session.proofs.lent.judge_lent.Tie as tie
@@ -29,8 +30,16 @@ frame-fits-requires c κs = search needs
 returns : tie.Need-returns
 returns c = judges-closed _ _ (λ h. c .before .frame-fits .ensures .when-no (not-yes (c .if1 .taken)) (frame h))
 
+-- the session that is lent
+abbrev S : tie.Start → Session
+S s = let a = s .args in sessionAt (a .last) (a .closeness) (a .total) (now (a .own)) (now (a .matrix)) (now (a .right-hand)) (now (a .mean))
+
+-- where the call starts
+abbrev start : tie.Else1 → tie.Start
+start c = c .before .before .before
+
 -- the frame fits
-framed : (c : tie.Else1) → let s = c .before .before .before .args in FrameFits (s .last) (s .closeness) (s .total) (now (s .own)) (now (s .matrix)) (now (s .right-hand)) (now (s .mean))
+framed : (c : tie.Else1) → Framed (S (start c))
 framed c = c .before .frame-fits .ensures .when-yes (not-no (c .if1 .left))
 
 cast-year : tie.Need-cast-year
@@ -50,35 +59,47 @@ returns-2 c = judges-closed _ _ (λ h. c .before .before .residues .ensures .fit
 
 returns-3 : tie.Need-returns-3
 returns-3 c =
-    judges-refused _ _ (fits (framed (c .before .before .before .before .before .before .before)) (c .before .before .residues .ensures .fit .when-yes (not-no (c .if2 .left)))) _ _ (sym (c .before .before .before .before .before .before .parse .ensures .checked) ∙ ap told (c .before .before .before .before .checked .given .1))
+    let tested = c .before .before in
+    let refused = tested .before .before in
+    let parsed = refused .before .before in
+    judges-refused _ _ (fits (framed (parsed .before)) (tested .residues .ensures .fit .when-yes (not-no (c .if2 .left)))) _ _
+    (sym (parsed .parse .ensures .checked) ∙ ap told (refused .checked .given .1))
 
 enum-told : tie.Need-enum-told
 enum-told c = search needs
 
--- the record is not refused
-clear-record : (c : tie.After-enum-told) → let s = c .before .before .before .before .before .before .args in recordCheck (s .last) (now (s .lent)) ≡ clear
-clear-record c = passed (c .before .before .parse .ensures .checked) (c .enum-told .given .1)
+-- the record is not refused, so its mean is read
+module _ (c : tie.After-enum-told) where
+  abbrev parsed : tie.After-parse
+  parsed = c .before .before
 
--- so its mean is read
-parsed-mean : (c : tie.After-enum-told) → let s = c .before .before .before .before .before .before .args in c .before .before .parse .result .mean ≡ padded (s .last) (now (s .lent))
-parsed-mean c = c .before .before .parse .ensures .is (ap told (c .enum-told .given .1))
+  abbrev from : tie.Start
+  from = start (parsed .before)
+
+  clear-record : recordCheck (from .args .last) (now (from .args .lent)) ≡ clear
+  clear-record = passed (parsed .parse .ensures .checked) (c .enum-told .given .1)
+
+  parsed-mean : parsed .parse .result .mean ≡ padded (from .args .last) (now (from .args .lent))
+  parsed-mean = parsed .parse .ensures .is (ap told (c .enum-told .given .1))
 
 residues-requires-2 : tie.Need-residues-requires-2
-residues-requires-2 c κs = asks-residues (framed (c .before .before .before .before .before)) (mean-inside _ _ (clear-record (c .before .before)) (parsed-mean (c .before .before)))
+residues-requires-2 c κs =
+    let taken = c .before .before in
+    asks-residues (framed (parsed taken .before)) (mean-inside _ _ (clear-record taken) (parsed-mean taken))
 
 returns-4 : tie.Need-returns-4
 returns-4 c = judges-closed _ _ (λ h. c .before .residues2 .ensures .fit .when-no (not-yes (c .if3 .taken)) (rows h))
 
 -- a file is open
-open-file : (c : tie.Else3) → let s = c .before .before .before .before .before .before .before .before .before .before .args in Fits (sessionAt (s .last) (s .closeness) (s .total) (now (s .own)) (now (s .matrix)) (now (s .right-hand)) (now (s .mean)))
-open-file c = fits (framed (c .before .before .before .before .before .before .before)) (c .before .residues2 .ensures .fit .when-yes (not-no (c .if3 .left)))
+module _ (c : tie.Else3) where
+  abbrev taken : tie.After-enum-told
+  taken = c .before .before .before .before
 
--- its figures
-abbrev F : tie.Start → Figures
-F s = figuresAt (s .args .last) (s .args .closeness) (now (s .args .own)) (now (s .args .matrix)) (now (s .args .right-hand))
+  open-file : Fits (S (from taken))
+  open-file = fits (framed (parsed taken .before)) (c .before .residues2 .ensures .fit .when-yes (not-no (c .if3 .left)))
 
 test-requires : tie.Need-test-requires
-test-requires c κs = own-fits (F (c .before .before .before .before .before .before .before .before .before .before .before .before)) (open-file (c .before .before) .fitting)
+test-requires c κs = let opened = c .before .before in own-fits (S (from (taken opened)) .figures) (open-file opened .fitting)
 
 enum-told-2 : tie.Need-enum-told-2
 enum-told-2 c = search needs
@@ -87,17 +108,32 @@ enum-known-judgement : tie.Need-enum-known-judgement
 enum-known-judgement c = search needs
 
 -- the judgement of the record's mean
-verdict : (c : tie.After-test) → let s = c .before .before .before .before .before .before .before .before .before .before .before .before .before in judgementOf (c .test .result) ≡ judgement (figuresOf (F s)) (part (D.meanOf (s .args .last) (now (s .args .lent))))
-verdict c =
-    let s = c .before .before .before .before .before .before .before .before .before .before .before .before .before in
-    judged (F s) _ _ (c .before .before .before .before .residues2 .ensures .are (not-no (c .before .before .before .if3 .left))) (c .test .ensures)
-    ∙ ap (λ m. judgement (figuresOf (F s)) (part m)) (mean-is _ _ (clear-record (c .before .before .before .before .before .before .before)) (parsed-mean (c .before .before .before .before .before .before .before)))
+module _ (c : tie.After-test) where
+  abbrev opened : tie.Else3
+  opened = c .before .before .before
+
+  abbrev s : tie.Start
+  s = from (taken opened)
+
+  abbrev judgement-of : List ℤ → Judgement
+  judgement-of m = judgement (figuresOf (S s .figures)) (part m)
+
+  verdict : judgementOf (c .test .result) ≡ judgement-of (D.meanOf (s .args .last) (now (s .args .lent)))
+  verdict =
+      judged (S s .figures) _ _ (opened .before .residues2 .ensures .are (not-no (opened .if3 .left))) (c .test .ensures)
+      ∙ ap judgement-of (mean-is _ _ (clear-record (taken opened)) (parsed-mean (taken opened)))
 
 returns-5 : tie.Need-returns-5
-returns-5 c = judges-passed _ _ (open-file (c .before .before .before .before .before)) (clear-record (c .before .before .before .before .before .before .before .before .before)) (sym (verdict (c .before .before)) ∙ ap judgementOf (c .enum-told2 .given .1))
+returns-5 c =
+    let tested = c .before .before in
+    judges-passed _ _ (open-file (opened tested)) (clear-record (taken (opened tested)))
+    (sym (verdict tested) ∙ ap judgementOf (c .enum-told2 .given .1))
 
 returns-6 : tie.Need-returns-6
-returns-6 c = judges-fails _ _ (open-file (c .before .before .before .before .before .before)) _ (clear-record (c .before .before .before .before .before .before .before .before .before .before)) (sym (verdict (c .before .before .before)) ∙ ap judgementOf (c .before .judgement .given .1))
+returns-6 c =
+    let tested = c .before .before .before in
+    judges-fails _ _ (open-file (opened tested)) _ (clear-record (taken (opened tested)))
+    (sym (verdict tested) ∙ ap judgementOf (c .before .judgement .given .1))
 
 pub judge-lent-spec : {M : Type 1} → statement M
 judge-lent-spec =

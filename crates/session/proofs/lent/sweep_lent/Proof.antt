@@ -1,4 +1,4 @@
--- `lent::sweep_lent` meets its contract: 21 and 12 come before the sweeps of an open file. Assumes nothing.
+-- `lent::sweep_lent` meets its contract: 21 and 12 come before the sweeps of an open file.
 use mathlib.Core.Path.{refl}
 use native.Mathlib.Omega.{arith}
 use borrow.Author.Needs.{needs}
@@ -7,10 +7,9 @@ use Rattle.layout.specs.CheckLaws.{within-low, within-high}
 use Rattle.chain.specs.Decides.{not-yes, not-no}
 use Rattle.chain.specs.Sweeps.{started}
 use Rattle.session.specs.declared.Session.{Session}
-use Rattle.session.specs.Bounds.{FrameFits}
 use Rattle.session.specs.State.{Fits, sessionAt}
-use Rattle.session.specs.CallLaws.{sweeps-closed, sweeps-outside}
-use Rattle.session.specs.Fitted.{asks-residues, held-inside, fits, frame, rows}
+use Rattle.session.specs.SweepLaws.{sweeps-closed, sweeps-outside}
+use Rattle.session.specs.Fitted.{Framed, asks-residues, held-inside, fits, frame, rows}
 use Rattle.session.proofs.lent.sweep_lent.Statement.{statement}
 use Rattle.session.proofs.lent.sweep_lent.Tie as tie
 
@@ -22,10 +21,14 @@ returns c = sweeps-closed _ _ (λ h. c .before .frame-fits .ensures .when-no (no
 
 -- the session that is lent
 abbrev S : tie.Start → Session
-S s = sessionAt (s .args .last) (s .args .closeness) (now (s .args .total)) (now (s .args .own)) (now (s .args .matrix)) (now (s .args .right-hand)) (now (s .args .mean))
+S s = let a = s .args in sessionAt (a .last) (a .closeness) (now (a .total)) (now (a .own)) (now (a .matrix)) (now (a .right-hand)) (now (a .mean))
+
+-- where the call starts
+abbrev start : tie.Else1 → tie.Start
+start c = c .before .before .before .before .before
 
 -- the frame fits
-framed : (c : tie.Else1) → let s = c .before .before .before .before .before .args in FrameFits (s .last) (s .closeness) (now (s .total)) (now (s .own)) (now (s .matrix)) (now (s .right-hand)) (now (s .mean))
+framed : (c : tie.Else1) → Framed (S (start c))
 framed c = c .before .frame-fits .ensures .when-yes (not-no (c .if1 .left))
 
 residues-requires : tie.Need-residues-requires
@@ -34,9 +37,13 @@ residues-requires c κs = let f = framed (c .before) in asks-residues f (held-in
 returns-2 : tie.Need-returns-2
 returns-2 c = sweeps-closed _ _ (λ h. c .before .before .residues .ensures .fit .when-no (not-yes (c .if2 .taken)) (rows h))
 
--- a file is open
-open-file : (c : tie.Else2) → Fits (S (c .before .before .before .before .before .before .before .before .before))
-open-file c = fits (framed (c .before .before .before .before)) (c .before .before .residues .ensures .fit .when-yes (not-no (c .if2 .left)))
+-- the rows fit too
+module _ (c : tie.Else2) where
+  abbrev framing : tie.Else1
+  framing = c .before .before .before .before
+
+  open-file : Fits (S (start framing))
+  open-file = fits (framed framing) (c .before .before .residues .ensures .fit .when-yes (not-no (c .if2 .left)))
 
 returns-3 : tie.Need-returns-3
 returns-3 c = sweeps-outside _ _ (open-file (c .before)) (within-low 4096 refl (c .if3 .taken))
@@ -45,13 +52,19 @@ returns-4 : tie.Need-returns-4
 returns-4 c = sweeps-outside _ _ (open-file (c .before .before)) (within-high 1 refl (c .if4 .taken))
 
 sweep-on-requires : tie.Need-sweep-on-requires
-sweep-on-requires c κs = record {
-  fits = open-file (c .before .before .before .before .before);
-  mean = refl;
-  holds-mean = started (S (c .before .before .before .before .before .before .before .before .before .before .before .before .before .before) .figures) _ _ (held-inside (framed (c .before .before .before .before .before .before .before .before .before))) (c .before .before .before .before .before .before .before .residues .ensures .are (not-no (c .before .before .before .before .before .if2 .left)));
-  from = omega (arith, c .before .before .before .before .if3 .left);
-  to = omega (arith, c .before .before .before .if4 .left);
-}
+sweep-on-requires c κs =
+    let to = c .before .before .before in
+    let from = to .before in
+    let opened = from .before in
+    let f = framed (framing opened) in
+    record {
+      fits = open-file opened;
+      mean = refl;
+      holds-mean = started (S (start (framing opened)) .figures) _ _ (held-inside f)
+          (opened .before .before .residues .ensures .are (not-no (opened .if2 .left)));
+      from = omega (arith, from .if3 .left);
+      to = omega (arith, to .if4 .left);
+    }
 
 returns-5 : tie.Need-returns-5
 returns-5 c = c .sweep-on .ensures

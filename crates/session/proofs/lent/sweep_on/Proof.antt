@@ -1,7 +1,9 @@
--- `lent::sweep_on` meets its contract: the mean that is held is tested before the first sweep, and what is held afterwards is the mean and the total of the
--- sweeps. Assumes nothing.
+-- `lent::sweep_on` meets its contract: the mean that is held is tested before the first sweep, and what is held afterwards is the
+-- mean and the total of the sweeps.
+use Prim.Native.Nat.{_<_}
 use native.Mathlib.Omega.{arith}
 use denote.Ref.{now}
+use Rattle.definitions.specs.Sweep.{sweepLimit}
 use Rattle.chain.specs.Judge.{own-fits}
 use Rattle.session.specs.declared.Session.{Session}
 use Rattle.session.specs.State.{sessionAt}
@@ -11,27 +13,53 @@ use Rattle.session.proofs.lent.sweep_on.Tie as tie
 
 -- the session that is lent
 abbrev S : tie.Start → Session
-S s = sessionAt (s .args .last) (s .args .closeness) (now (s .args .total)) (now (s .args .own)) (now (s .args .matrix)) (now (s .args .right-hand)) (now (s .args .mean))
+S s = let a = s .args in sessionAt (a .last) (a .closeness) (now (a .total)) (now (a .own)) (now (a .matrix)) (now (a .right-hand)) (now (a .mean))
+
+-- where the call starts, seen from where its mean is tested
+abbrev start : tie.After-passes → tie.Start
+start c = c .before .before .before .before
 
 passes-requires : tie.Need-passes-requires
-passes-requires c κs = own-fits (S (c .before .before .before) .figures) (c .before .before .before .pre .fits .fitting)
+passes-requires c κs = let s = c .before .before .before in own-fits (S s .figures) (s .pre .fits .fitting)
 
 returns : tie.Need-returns
-returns c = settled (S (c .before .before .before .before .before)) (c .before .before .before .before .before .args .n) (c .before .before .before .before .before .pre) (c .before .passes .ensures) (c .if1 .taken)
+returns c =
+    let tested = c .before in
+    let s = start tested in
+    settled (S s) (s .args .n) (s .pre) (tested .passes .ensures) (c .if1 .taken)
 
 returns-2 : tie.Need-returns-2
-returns-2 c = spent (S (c .before .before .before .before .before .before)) (c .before .before .before .before .before .before .args .n) (c .before .before .before .before .before .before .pre) (c .before .before .passes .ensures) (c .before .if1 .left) (omega (arith, c .if2 .taken))
+returns-2 c =
+    let failing = c .before in
+    let tested = failing .before in
+    let s = start tested in
+    spent (S s) (s .args .n) (s .pre) (tested .passes .ensures) (failing .if1 .left) (omega (arith, c .if2 .taken))
 
 sweeps-requires : tie.Need-sweeps-requires
-sweeps-requires c κs = record { fitting = c .before .before .before .before .before .before .pre .fits .fitting; holds = c .before .before .before .before .before .before .pre .holds-mean }
+sweeps-requires c κs = let asked = start (c .before .before) .pre in record { fitting = asked .fits .fitting; holds = asked .holds-mean }
+
+-- sweeps are run
+module _ (c : tie.After-sweeps) where
+  abbrev failing : tie.Else1
+  failing = c .before .before
+
+  abbrev s : tie.Start
+  s = start (failing .before)
+
+  more : S s .total < sweepLimit
+  more = omega (arith, c .before .if2 .left)
 
 returns-3 : tie.Need-returns-3
 returns-3 c =
-    done (S (c .before .before .before .before .before .before .before .before .before .before)) (c .before .before .before .before .before .before .before .before .before .before .args .n) (c .before .before .before .before .before .before .before .before .before .before .pre) (c .before .before .before .before .before .before .passes .ensures) (c .before .before .before .before .before .if1 .left) (omega (arith, c .before .before .before .before .if2 .left)) (c .before .before .before .sweeps .ensures) (c .if3 .taken)
+    let ran = c .before .before .before in
+    done (S (s ran)) (s ran .args .n) (s ran .pre) (failing ran .before .passes .ensures) (failing ran .if1 .left) (more ran)
+    (ran .sweeps .ensures) (c .if3 .taken)
 
 returns-4 : tie.Need-returns-4
 returns-4 c =
-    still-going (S (c .before .before .before .before .before .before .before .before .before .before)) (c .before .before .before .before .before .before .before .before .before .before .args .n) (c .before .before .before .before .before .before .before .before .before .before .pre) (c .before .before .before .before .before .before .passes .ensures) (c .before .before .before .before .before .if1 .left) (omega (arith, c .before .before .before .before .if2 .left)) (c .before .before .before .sweeps .ensures) (c .if3 .left)
+    let ran = c .before .before .before in
+    still-going (S (s ran)) (s ran .args .n) (s ran .pre) (failing ran .before .passes .ensures) (failing ran .if1 .left) (more ran)
+    (ran .sweeps .ensures) (c .if3 .left)
 
 pub sweep-on-spec : {M : Type 1} → statement M
 sweep-on-spec =

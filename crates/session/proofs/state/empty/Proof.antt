@@ -1,4 +1,4 @@
--- `state::empty` meets its contract: nothing is held. Assumes nothing.
+-- `state::empty` meets its contract: nothing is held.
 use native.Mathlib.Omega.{arith}
 use Rattle.session.specs.StateLaws.{stateOf-empty}
 use Rattle.session.proofs.state.empty.Statement.{statement}
