@@ -49,7 +49,7 @@ of-settled (Settled total) e = ap Settled (settled-same e)
 of-settled (Going total) e = absurd (going-settled e)
 of-settled (Refused number place) e = absurd (refused-settled e)
 
--- settled exactly when the mean held after it passes
+-- the mean that is held from now on decides the answer
 module _ (F : D.Figures) (μ ν : List ℤ) (total n after : ℕ) where
   abbrev end : Swept
   end = sweeps F n μ total

@@ -13,7 +13,7 @@ pub enum JudgeAnswer {
     Refused(u64, usize),
 }
 
-// With the total of sweeps run since open.
+// With how many sweeps were run since the file was opened.
 pub enum SweepAnswer {
     Settled(u64),
     Going(u64),
