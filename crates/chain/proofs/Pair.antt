@@ -1,4 +1,4 @@
--- A pair of mean and residues (`Working`), and the matrix, as the walks of `step_in` and of `one_sweep` see them.
+-- A pair of mean and residues (`Working`), and the matrix, as the walks of `step_in` and of `sweep_from` see them.
 --     Pair, Matrix     their types
 --     mach, typed      a pair's machine value, and that it is a value of the pair's MIR type
 --     lies-in, lies-out    a pair in a local's cell lies in memory, as what is lent does, and the other way
