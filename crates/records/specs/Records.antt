@@ -20,6 +20,18 @@ use Rattle.layout.specs.CheckLaws.{fields-clear}
 abbrev pub InLimits : ℕ → List ℤ → Type 0
 InLimits n μ = (k : ℕ) → k < n → natAbs (part μ k) ≤ partLimit
 
+-- what a writer of records asks of the mean and of the buffer
+abbrev pub Writes : ℕ → List ℤ → Bytes → Type 0
+Writes last μ b = (last ≤ 15) × (recordLength last ≤ length b) × InLimits (parts last) μ
+
+-- four bytes of the number v at the place `at` of a buffer b, in place of those that were there
+pub record FourPut (b : Bytes) (at v : ℕ) (r : Bytes) : Type 0 where
+  pub is : r ≡ take at b ++ bytesOf 4 v ++ drop (at + 4) b
+
+-- a buffer with k parts behind its first five bytes; the bytes behind them are as they were
+abbrev pub withParts : Bytes → List ℤ → ℕ → Bytes
+withParts b μ k = take 5 b ++ partBytes 0 k μ ++ drop (5 + 4 * k) b
+
 -- ---- tables
 
 module _ {A : Type 0} (f : ℕ → A) where
