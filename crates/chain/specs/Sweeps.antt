@@ -24,7 +24,6 @@ use Rattle.chain.specs.Held.{tab-cong, held-residue}
 use Rattle.chain.specs.Judge.{Passes, test-is-judgement, residues-are}
 use Rattle.chain.specs.Residues.{ResiduesOf}
 use Rattle.chain.specs.Sizes.{mean-at, residue-at, residue-same, system-fits}
-use Rattle.chain.specs.Step.{Stepped}
 use Rattle.chain.specs.Sweep.{OfSystem, OneSwept}
 
 -- a mean inside the limits, with the residues that it has
@@ -72,15 +71,6 @@ module _ (F : Figures) where
         ∙ ap (λ G. residue G (part (meanOf (F .last) (w .mean))) k) same
         ∙ sym (residue-same F (part (meanOf (F .last) (w .mean))) k);
   }
-
-  -- a step that the code makes is the definitions' step over the figures, and leaves the residues that the mean then has
-  module _ (w r : Working) (h : Holds F w) (k : ℕ) (stepped : Stepped (F .last) (F .matrix) w k r) where
-    pub stepped-mean : meanOf (F .last) (r .mean) ≡ step (figuresOf F) k (meanOf (F .last) (w .mean))
-    unfolding step change residue figuresOf
-    stepped-mean = stepped .mean ∙ ap (λ G. step G k (meanOf (F .last) (w .mean))) (holds-held w h)
-
-    pub stepped-holds : Holds F r
-    stepped-holds = held-holds r (stepped .inside) (stepped .residues ∙ holds-held w h)
 
   -- a sweep uses of the figures only their system
   sweep-same : (k n : ℕ) (μ : List ℤ) → sweepFrom systemOf k n μ ≡ sweepFrom (figuresOf F) k n μ

@@ -45,10 +45,6 @@ cells-twice J =
 pub row-inside : (J i : ℕ) → i ≤ J → rowStart J i + (J + 1 - i) ≤ cells J
 row-inside J i h = omega (arith, row-starts J (i + 1) (omega arith), row-start-next J i)
 
--- cell j of the row of year i is a cell of its block
-pub cell-inside : (J i j : ℕ) → i + j ≤ J → rowStart J i + j < cells J
-cell-inside J i j h = omega (arith, row-inside J i (omega arith))
-
 pub cells-few : (J : ℕ) → J ≤ 15 → cells J ≤ 136
 cells-few J h =
     let a : J + 1 ≤ 16 = omega arith in
