@@ -56,7 +56,8 @@ pub fn sweeps<'a>(
     n: u64,
 ) -> Swept
     requires { ⌜ Sweeps (figuresAt last closeness (now own) (now matrix) (now «_right_hand»)) working ⌝ }
-    ensures { λ r. ⌜ SweptTo (figuresAt last closeness (now (own .entry)) (now (matrix .entry)) (now («_right_hand» .entry))) working total n r ⌝ }
+    ensures { λ r.
+        ⌜ SweptTo (figuresAt last closeness (now (own .entry)) (now (matrix .entry)) (now («_right_hand» .entry))) working total n r ⌝ }
 {
     let mut current = working;
     let mut run = total;
