@@ -32,7 +32,8 @@ row-starts J (suc i) h =
     let next : J + 2 - i ≡ m + 2 = omega arith in
     let left : J + 1 - suc i ≡ m = omega arith in
     let top : J + 2 - suc i ≡ m + 1 = omega arith in
-    rw (← add-one i, row-start-next J i, add-one i, here, left, top) (one-row (rowStart J i) m ∙ rw (here, next) at (row-starts J i (omega arith)))
+    rw (← add-one i, row-start-next J i, add-one i, here, left, top)
+    (one-row (rowStart J i) m ∙ rw (here, next) at (row-starts J i (omega arith)))
 
 -- a block has as many cells as the rows of its J + 1 years
 pub cells-twice : (J : ℕ) → 2 * cells J ≡ (J + 1) * (J + 2)

@@ -79,7 +79,7 @@ fn shown_row(s: &[u8], channel: usize, year: usize) -> &[u8]
     part(&s[start..middle], &s[middle..], channel, first, end)
 }
 
-// The row of a year in the paid block (channel 0) or in the incurred block (1); an empty part exactly where it is refused.
+// A year's row, from the block of the channel; empty exactly where `row_told` refuses.
 pub fn row(s: &[u8], channel: usize, year: usize) -> &[u8]
     ensures { λ r. ⌜ now r ≡ rowPart (now (s .entry)) channel year ⌝ }
 {
