@@ -1,4 +1,4 @@
--- A pair of mean and residues (`Working`), and the matrix, as the walks of `step_in` and of `one_sweep` see them.
+-- A pair of mean and residues (`Working`), and the matrix, as the walks of `step_in` and of `sweep_from` see them.
 --     Pair, Matrix     their types
 --     mach, typed      a pair's machine value, and that it is a value of the pair's MIR type
 --     lies-in, lies-out    a pair in a local's cell lies in memory, as what is lent does, and the other way
@@ -41,7 +41,8 @@ module _ {M : Type 1} (𝓤 : URA M) (H : Heap 𝓤) (A : Atoms 𝓤) (W : Given
   pub lies-in : (l : ℕ) → Is Pair w (mach w ∷ []) → ent 𝓤 (H .at fullShare T′.mir l 0 (mach w)) (sem 𝓤 H A (partAt Pair fullShare w l 0))
   unfolding partOf
   lies-in l is =
-      qed W (‵ (fat fullShare T′.mir l 0 (mach w)) ∷ []) ∵ use1 W (‵ (cellAt fullShare (Pair .mir) (mach w ∷ []) l 0)) (W .laws .at-raw fullShare T′.mir l 0 (mach w)) $
+      qed W (‵ (fat fullShare T′.mir l 0 (mach w)) ∷ []) ∵
+      use1 W (‵ (cellAt fullShare (Pair .mir) (mach w ∷ []) l 0)) (W .laws .at-raw fullShare T′.mir l 0 (mach w)) $
       owned ! Pair (Is Pair) (LL.makes T.the-type T′.the-plain 𝓤 H A) w (mach w ∷ []) is $ move ! (1 ∷ 0 ∷ []) $ fjoin ! $
       fpack ! (List Val) (λ vs. fsep (cellAt fullShare (Pair .mir) vs l 0) (Pair .own w vs)) (mach w ∷ []) $ done !
 

@@ -28,6 +28,10 @@ pub cell-mirrored : (A : List ℤ) (k l : ℕ) → cell A k l ≡ cell A l k
 unfolding cell
 cell-mirrored A k l = ap (part A) (omega arith)
 
+-- the first n entries of row k times a vector
+abbrev pub rowProduct : List ℤ → ℕ → ℕ → List ℤ → ℤ
+rowProduct A k n μ = sum n (λ l. cell A k l *ℤ part μ l)
+
 abbrev pub rowsOf : ℕ → List ℤ → List (List ℤ)
 rowsOf last A = tabFrom 0 (parts last) (λ k. tabFrom 0 (parts last) (cell A k))
 
@@ -48,10 +52,12 @@ figuresOf F = record {
 abbrev pub system : ℕ → List ℤ → List ℤ → Figures
 system last A b = record { last = last; closeness = 0; own = []; matrix = rowsOf last A; rightHand = b }
 
+abbrev pub systemOf : FlatFigures → Figures
+systemOf F = system (F .last) (F .matrix) (meanOf (F .last) (F .«right_hand»))
+
 -- The right-hand side of which a working mean's residues speak: A·mean − residues.
 abbrev pub heldRightHand : ℕ → List ℤ → Working → List ℤ
-heldRightHand last A w =
-    tabFrom 0 (parts last) (λ k. sum (parts last) (λ l. cell A k l *ℤ part (w .mean) l) -ℤ part (w .residues) k)
+heldRightHand last A w = tabFrom 0 (parts last) (λ k. rowProduct A k (parts last) (w .mean) -ℤ part (w .residues) k)
 
 -- A step has the matrix, a mean and its residues, and so the system that they belong to.
 unfoldable pub held : ℕ → List ℤ → Working → Figures

@@ -1,7 +1,7 @@
 -- Figures and means that 64 bits suffice for. Of the matrix the entries on and below the diagonal are bounded. A row then comes to at most
 -- 30·2^31 + 2^33 = 17·2^32 in size, and a residue to 17·2^58 + 2^59, which with half a diagonal entry is below 2^63; a part changes by at
 -- most 2^27, and an entry times that is at most 2^60.
-use Prim.Native.Nat.{ℕ, _*_, _-_, _^_, _≤_, _<_}
+use Prim.Native.Nat.{ℕ, _+_, _*_, _-_, _^_, _≤_, _<_}
 use mathlib.Core.List.{List}
 use lib.IntN.{ℤ, pos, natAbs}
 use lib.Signed.{_≤ℤ_}
@@ -27,6 +27,10 @@ ownLimit = 2 ^ 33
 
 abbrev pub rightHandLimit : ℕ
 rightHandLimit = 2 ^ 59
+
+-- and for that of a residue
+abbrev pub residueLimit : ℕ
+residueLimit = rowLimit * partLimit + rightHandLimit
 
 pub record Fitting (F : Figures) : Type 0 where
   pub years : F .last ≤ yearLimit

@@ -11,7 +11,6 @@ use lib.Seq.{ext-getD, getD-set-same, getD-set-other}
 use Rattle.integers.specs.Solver.{ring, _⊞_, _⊟_, _≐_}
 use Rattle.integers.specs.Linear.{linear, zarith}
 use Rattle.integers.specs.Order.{nonneg-pos, pos-<}
-use Rattle.integers.specs.Sum.{sum}
 use Rattle.integers.specs.Floor.{floorDiv, floor-half}
 use Rattle.definitions.specs.Words.{tabFrom, part}
 use Rattle.definitions.specs.Layout.{parts}
@@ -20,7 +19,7 @@ use Rattle.definitions.specs.Sweep.{bringBack, change, step}
 use Rattle.laws.specs.Judged.{tab-at, tabFrom-length}
 use Rattle.laws.specs.StepLaws.{sum-set}
 use Rattle.chain.specs.declared.arrays.Working.{Working}
-use Rattle.chain.specs.Arrays.{meanOf, cell, system, heldRightHand, held}
+use Rattle.chain.specs.Arrays.{meanOf, cell, system, heldRightHand, held, rowProduct}
 use Rattle.chain.specs.Sizes.{mean-at, entry-at, residue-at}
 
 -- ---- tables
@@ -32,11 +31,12 @@ tab-cong i zero h = refl
 tab-cong i (suc n) h = ap₂ _∷_ (h i (omega arith) (omega arith)) (tab-cong (suc i) n (λ k from to. h k (omega arith) (omega arith)))
 
 -- a part of a mean is set in its array
-pub mean-set : (last : ℕ) (v : List ℤ) → parts last ≤ length v → (k : ℕ) → k < parts last → (z : ℤ) → meanOf last (set v k z) ≡ set (meanOf last v) k z
+pub mean-set : (last : ℕ) (v : List ℤ) → parts last ≤ length v → (k : ℕ) → k < parts last → (z : ℤ)
+    → meanOf last (set v k z) ≡ set (meanOf last v) k z
 mean-set last v long k below z =
     ext-getD (pos 0) (meanOf last (set v k z)) (set (meanOf last v) k z)
     (table-long (set v k z) ∙ sym (length-set (meanOf last v) k z ∙ table-long v))
-    (λ i i-below. mean-at last (set v k z) i (omega (arith, table-long (set v k z))) ∙ by-place i (omega (arith, table-long (set v k z))) (ℕ-discrete i k))
+    (λ i i-below. at i (omega (arith, table-long (set v k z))))
   where
     table-long : (l : List ℤ) → length (meanOf last l) ≡ parts last
     table-long l = tabFrom-length 0 (parts last) (part l)
@@ -50,21 +50,30 @@ mean-set last v long k below z =
         getD-set-other v k i z (pos 0) apart
         ∙ sym (getD-set-other (meanOf last v) k i z (pos 0) apart ∙ mean-at last v i i-below)
 
+    at : (i : ℕ) → i < parts last → part (meanOf last (set v k z)) i ≡ part (set (meanOf last v) k z) i
+    at i i-below = mean-at last (set v k z) i i-below ∙ by-place i i-below (ℕ-discrete i k)
+
 -- ---- a working mean
 
 -- what part k changes by before it is brought back, in the arrays' terms and with half of the diagonal entry rounded down
+abbrev pub dividend : List ℤ → Working → ℕ → ℤ
+dividend A w k = pos (natAbs (cell A k k) / 2) -ℤ part (w .residues) k
+
 abbrev pub moved : List ℤ → Working → ℕ → ℤ
-moved A w k = floorDiv (pos (natAbs (cell A k k) / 2) -ℤ part (w .residues) k) (natAbs (cell A k k))
+moved A w k = floorDiv (dividend A w k) (natAbs (cell A k k))
 
 -- part k after its step
 abbrev pub stepped : List ℤ → Working → ℕ → ℤ
 stepped A w k = bringBack (part (w .mean) k +ℤ moved A w k)
 
+abbrev pub meanAfter : List ℤ → Working → ℕ → List ℤ
+meanAfter A w k = set (w .mean) k (stepped A w k)
+
 module _ (last : ℕ) (A : List ℤ) (w : Working) (k : ℕ) (below : k < parts last) where
-  pub held-difference : sum (parts last) (λ l. cell A k l *ℤ part (w .mean) l) -ℤ part (heldRightHand last A w) k ≡ part (w .residues) k
+  pub held-difference : rowProduct A k (parts last) (w .mean) -ℤ part (heldRightHand last A w) k ≡ part (w .residues) k
   held-difference =
-      let row : ℤ = sum (parts last) (λ l. cell A k l *ℤ part (w .mean) l) in
-      ap (λ b. row -ℤ b) (tab-at (parts last) (λ k. sum (parts last) (λ l. cell A k l *ℤ part (w .mean) l) -ℤ part (w .residues) k) k (pos 0) below)
+      let row : ℤ = rowProduct A k (parts last) (w .mean) in
+      ap (λ b. row -ℤ b) (tab-at (parts last) (λ k. rowProduct A k (parts last) (w .mean) -ℤ part (w .residues) k) k (pos 0) below)
       ∙ ring (row ∷ part (w .residues) k ∷ []) (λ s r. s ⊟ (s ⊟ r) ≐ r) tt
 
   pub held-residue : residue (held last A w) (part (meanOf last (w .mean))) k ≡ part (w .residues) k
@@ -96,13 +105,13 @@ module _ (last : ℕ) (A : List ℤ) (w : Working) (long : parts last ≤ length
   -- what is left of the right-hand side of a residue that follows
   pub followed-is : (i : ℕ) → i < parts last
       → part (w .residues) i +ℤ cell A i k *ℤ (z -ℤ part (w .mean) k)
-      ≡ sum (parts last) (λ l. cell A i l *ℤ part (set (w .mean) k z) l) -ℤ part (heldRightHand last A w) i
+      ≡ rowProduct A i (parts last) (set (w .mean) k z) -ℤ part (heldRightHand last A w) i
   followed-is i i-below =
-      let row : ℤ = sum (parts last) (λ l. cell A i l *ℤ part (w .mean) l) in
+      let row : ℤ = rowProduct A i (parts last) (w .mean) in
       let gain : ℤ = cell A i k *ℤ (z -ℤ part (w .mean) k) in
       ring (row ∷ gain ∷ part (w .residues) i ∷ []) (λ s g r. r ⊞ g ≐ (s ⊞ g) ⊟ (s ⊟ r)) tt
       ∙ sym (ap₂ _-ℤ_ (sum-set (parts last) (cell A i) (w .mean) k below (omega arith) z)
-      (tab-at (parts last) (λ k. sum (parts last) (λ l. cell A k l *ℤ part (w .mean) l) -ℤ part (w .residues) k) i (pos 0) i-below))
+      (tab-at (parts last) (λ k. rowProduct A k (parts last) (w .mean) -ℤ part (w .residues) k) i (pos 0) i-below))
 
   pub held-same : (r : Working) → r .mean ≡ set (w .mean) k z
       → ((i : ℕ) → i < parts last → part (r .residues) i ≡ part (w .residues) i +ℤ cell A i k *ℤ (z -ℤ part (w .mean) k))
@@ -111,12 +120,12 @@ module _ (last : ℕ) (A : List ℤ) (w : Working) (long : parts last ≤ length
   held-same r mean-is residues-are = ap (system last A) (tab-cong 0 (parts last) (λ i _ to. at i (omega arith)))
     where
       at : (i : ℕ) → i < parts last
-          → sum (parts last) (λ l. cell A i l *ℤ part (r .mean) l) -ℤ part (r .residues) i
-          ≡ sum (parts last) (λ l. cell A i l *ℤ part (w .mean) l) -ℤ part (w .residues) i
+          → rowProduct A i (parts last) (r .mean) -ℤ part (r .residues) i
+          ≡ rowProduct A i (parts last) (w .mean) -ℤ part (w .residues) i
       at i i-below =
-          let row : ℤ = sum (parts last) (λ l. cell A i l *ℤ part (w .mean) l) in
+          let row : ℤ = rowProduct A i (parts last) (w .mean) in
           let gain : ℤ = cell A i k *ℤ (z -ℤ part (w .mean) k) in
           ap₂ _-ℤ_
-          (ap (λ μ. sum (parts last) (λ l. cell A i l *ℤ part μ l)) mean-is ∙ sum-set (parts last) (cell A i) (w .mean) k below (omega arith) z)
+          (ap (rowProduct A i (parts last)) mean-is ∙ sum-set (parts last) (cell A i) (w .mean) k below (omega arith) z)
           (residues-are i i-below)
           ∙ ring (row ∷ gain ∷ part (w .residues) i ∷ []) (λ s g r. (s ⊞ g) ⊟ (r ⊞ g) ≐ s ⊟ r) tt

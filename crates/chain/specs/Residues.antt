@@ -1,5 +1,5 @@
 -- The contracts of the residues: what they ask, and what they give.
-use Prim.Native.Nat.{ℕ, _+_, _*_, _≤_, _<_}
+use Prim.Native.Nat.{ℕ, _+_, _≤_, _<_}
 use mathlib.Core.Path.{_≡_}
 use mathlib.Core.Bool.{true}
 use mathlib.Core.List.{List}
@@ -8,13 +8,13 @@ use lib.ListN.{length}
 use Rattle.integers.specs.Sum.{sum}
 use Rattle.definitions.specs.Words.{part}
 use Rattle.definitions.specs.Layout.{parts}
-use Rattle.definitions.specs.Refusals.{yearLimit, partLimit}
+use Rattle.definitions.specs.Refusals.{yearLimit}
 use Rattle.definitions.specs.Matrix.{residue}
 use Rattle.chain.specs.declared.residues.RowSum.{RowSum}
 use Rattle.chain.specs.declared.residues.TestedResidues.{TestedResidues}
-use Rattle.chain.specs.Arrays.{system, meanOf, cell}
+use Rattle.chain.specs.Arrays.{system, meanOf, cell, rowProduct}
 use Rattle.chain.specs.Decides.{Decides}
-use Rattle.chain.specs.Fitting.{Inside, entryLimit, diagonalLimit, rowLimit, rightHandLimit}
+use Rattle.chain.specs.Fitting.{Inside, entryLimit, diagonalLimit, rightHandLimit, residueLimit}
 use Rattle.chain.specs.Turned.{Turned}
 
 -- a row whose entries before the diagonal are no larger than 64 bits suffice for
@@ -30,11 +30,11 @@ pub record OfRow (μ v : List ℤ) (k : ℕ) : Type 0 where
   pub few : k < 31
   pub inside : Inside (k + 1) μ
   pub long : length v ≡ 31
-  pub small : (i : ℕ) → i < k → natAbs (part v i) ≤ rowLimit * partLimit + rightHandLimit
+  pub small : (i : ℕ) → i < k → natAbs (part v i) ≤ residueLimit
 
 pub record RowTimes (A μ v : List ℤ) (k : ℕ) (r : RowSum) (w : List ℤ) : Type 0 where
   pub fits : Decides (RowFits A k) (r .fits)
-  pub is : r .fits ≡ true → r .sum ≡ sum k (λ l. cell A k l *ℤ part μ l)
+  pub is : r .fits ≡ true → r .sum ≡ rowProduct A k k μ
   pub mirrored : r .fits ≡ true → Turned k (λ i. part v i +ℤ cell A k i *ℤ part μ k) (part v) w
 
 -- ---- all rows

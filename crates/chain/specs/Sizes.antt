@@ -1,5 +1,6 @@
--- The flat arrays beside the definitions' lists, and the sizes of what the code computes from figures that fit and a mean inside the limits.
-use Prim.Native.Nat.{ℕ, _+_, _*_, _-_, _≤_, _<_, zero-le}
+-- The flat arrays beside the definitions' lists; and how large the numbers are that the code computes, where the figures fit and the mean
+-- is inside the limits.
+use Prim.Native.Nat.{ℕ, _*_, _-_, _≤_, _<_, zero-le}
 use mathlib.Core.Path.{_≡_, refl, sym, ap, ap₂, _∙_, subst}
 use mathlib.Core.Logic.{_≢_}
 use mathlib.Core.List.{List, []}
@@ -10,7 +11,7 @@ use lib.IntN.{ℤ, pos, natAbs, _-ℤ_, _*ℤ_}
 use lib.Signed.{_≤ℤ_}
 use Rattle.integers.specs.Linear.{linear, zarith}
 use Rattle.integers.specs.Size.{natAbs--, natAbs-*-≤}
-use Rattle.integers.specs.Sum.{sum, sum-cong}
+use Rattle.integers.specs.Sum.{sum-cong}
 use Rattle.integers.specs.Total.{sizes, sum-size, total-mono, total-scale-right, total-bound-but-one}
 use Rattle.definitions.specs.Words.{tabFrom, part}
 use Rattle.definitions.specs.Layout.{parts}
@@ -19,8 +20,8 @@ use Rattle.definitions.specs.Loss.{Vector}
 use Rattle.definitions.specs.Matrix.{residue, entry}
 use Rattle.laws.specs.Judged.{tab-at}
 use Rattle.chain.specs.declared.arrays.Figures.{Figures as FlatFigures}
-use Rattle.chain.specs.Arrays.{meanOf, cell, cell-mirrored, system, figuresOf}
-use Rattle.chain.specs.Fitting.{Fitting, Inside, entryLimit, diagonalLimit, rowLimit, rightHandLimit}
+use Rattle.chain.specs.Arrays.{meanOf, cell, cell-mirrored, system, figuresOf, systemOf, rowProduct}
+use Rattle.chain.specs.Fitting.{Fitting, Inside, entryLimit, diagonalLimit, rowLimit, rightHandLimit, residueLimit}
 use Rattle.chain.specs.Residues.{RowsFit}
 
 -- ---- lists and arrays
@@ -36,7 +37,7 @@ module _ (last : ℕ) (A β : List ℤ) where
 
   -- the residue in the arrays' terms
   pub residue-at : (μ : List ℤ) (k : ℕ) → k < parts last
-      → residue (system last A β) (part (meanOf last μ)) k ≡ sum (parts last) (λ l. cell A k l *ℤ part μ l) -ℤ part β k
+      → residue (system last A β) (part (meanOf last μ)) k ≡ rowProduct A k (parts last) μ -ℤ part β k
   unfolding residue
   residue-at μ k below =
       ap (λ s. s -ℤ part β k) (sum-cong (parts last) (λ l l-below. ap₂ _*ℤ_ (entry-at k l below l-below) (mean-at last μ l l-below)))
@@ -44,11 +45,11 @@ module _ (last : ℕ) (A β : List ℤ) where
 -- ---- the figures' own system
 
 module _ (F : FlatFigures) where
-  pub residue-same : (u : Vector) (k : ℕ) → residue (figuresOf F) u k ≡ residue (system (F .last) (F .matrix) (meanOf (F .last) (F .«right_hand»))) u k
+  pub residue-same : (u : Vector) (k : ℕ) → residue (figuresOf F) u k ≡ residue (systemOf F) u k
   unfolding residue figuresOf
   residue-same u k = refl
 
-  pub system-fits : Fitting (figuresOf F) → Fitting (system (F .last) (F .matrix) (meanOf (F .last) (F .«right_hand»)))
+  pub system-fits : Fitting (figuresOf F) → Fitting (systemOf F)
   unfolding figuresOf
   system-fits h = record {
     years = h .years;
@@ -72,11 +73,10 @@ module _ (A : List ℤ) (n : ℕ) (rows : RowsFit A n) where
       by-side (no after) = subst (λ z. natAbs z ≤ entryLimit) (cell-mirrored A l k) (rows l l-below k (omega (arith, after)))
 
   pub row-fits : n ≤ 31 → (k : ℕ) → k < n → natAbs (cell A k k) ≤ diagonalLimit → sizes n (cell A k) ≤ rowLimit
-  row-fits few k below diagonal = omega (
-    arith,
-    mul-le-mul-right entryLimit few,
-    total-bound-but-one n k entryLimit (diagonalLimit - entryLimit) {f = λ l. natAbs (cell A k l)} (λ l l-below apart. off-diagonal k l below l-below apart) (λ _. omega arith),
-  )
+  row-fits few k below diagonal =
+      let one-larger = total-bound-but-one n k entryLimit (diagonalLimit - entryLimit) {f = λ l. natAbs (cell A k l)} in
+      let row = one-larger (λ l l-below apart. off-diagonal k l below l-below apart) (λ _. omega arith) in
+      omega (arith, mul-le-mul-right entryLimit few, row)
 
 -- a row whose first n sizes fit, times a mean
 module _ (A μ : List ℤ) (k n : ℕ) (fits : sizes n (cell A k) ≤ rowLimit) (inside : Inside n μ) where
@@ -85,15 +85,16 @@ module _ (A μ : List ℤ) (k n : ℕ) (fits : sizes n (cell A k) ≤ rowLimit) 
       le-trans (total-mono n (λ l below. natAbs-*-≤ (cell A k l) (part μ l) (le-refl (natAbs (cell A k l))) (inside .small l below)))
       (le-trans (le-of-eq (total-scale-right n partLimit (λ l. natAbs (cell A k l)))) (mul-le-mul-right partLimit fits))
 
-  pub sum-fits : natAbs (sum n (λ l. cell A k l *ℤ part μ l)) ≤ rowLimit * partLimit
+  pub sum-fits : natAbs (rowProduct A k n μ) ≤ rowLimit * partLimit
   sum-fits = le-trans (sum-size n (λ l. cell A k l *ℤ part μ l)) products-fit
 
-  pub difference-fits : (z : ℤ) → natAbs z ≤ rightHandLimit → natAbs (sum n (λ l. cell A k l *ℤ part μ l) -ℤ z) ≤ rowLimit * partLimit + rightHandLimit
-  difference-fits z small = le-trans (natAbs-- (sum n (λ l. cell A k l *ℤ part μ l)) z) (omega (arith, sum-fits, small))
+  pub difference-fits : (z : ℤ) → natAbs z ≤ rightHandLimit → natAbs (rowProduct A k n μ -ℤ z) ≤ residueLimit
+  difference-fits z small = le-trans (natAbs-- (rowProduct A k n μ) z) (omega (arith, sum-fits, small))
 
 module _ (last : ℕ) (A β : List ℤ) (fitting : Fitting (system last A β)) where
   rows-fit : RowsFit A (parts last)
-  rows-fit k below l before = subst (λ z. natAbs z ≤ entryLimit) (entry-at last A β k l below (omega arith)) (fitting .entries k below l before)
+  rows-fit k below l before =
+      subst (λ z. natAbs z ≤ entryLimit) (entry-at last A β k l below (omega arith)) (fitting .entries k below l before)
 
   pub diagonal-from : (k : ℕ) → k < parts last → pos 1 ≤ℤ cell A k k
   diagonal-from k below = subst (λ z. pos 1 ≤ℤ z) (entry-at last A β k k below below) (fitting .diagonal k below)
@@ -101,7 +102,8 @@ module _ (last : ℕ) (A β : List ℤ) (fitting : Fitting (system last A β)) w
   pub diagonal-fits : (k : ℕ) → k < parts last → natAbs (cell A k k) ≤ diagonalLimit
   diagonal-fits k below =
       let from : pos 1 ≤ℤ cell A k k = diagonal-from k below in
-      let to : cell A k k ≤ℤ pos diagonalLimit = subst (λ z. z ≤ℤ pos diagonalLimit) (entry-at last A β k k below below) (fitting .diagonal-to k below) in
+      let is : entry (system last A β) k k ≡ cell A k k = entry-at last A β k k below below in
+      let to : cell A k k ≤ℤ pos diagonalLimit = subst (λ z. z ≤ℤ pos diagonalLimit) is (fitting .diagonal-to k below) in
       simp linear (omega zarith)
 
   pub cell-fits : (k l : ℕ) → k < parts last → l < parts last → natAbs (cell A k l) ≤ diagonalLimit
@@ -112,6 +114,7 @@ module _ (last : ℕ) (A β : List ℤ) (fitting : Fitting (system last A β)) w
       by-place (no apart) = omega (arith, off-diagonal A (parts last) rows-fit k l k-below l-below apart)
 
   pub residue-fits : (μ : List ℤ) → Inside (parts last) μ → (k : ℕ) → k < parts last
-      → natAbs (sum (parts last) (λ l. cell A k l *ℤ part μ l) -ℤ part β k) ≤ rowLimit * partLimit + rightHandLimit
+      → natAbs (rowProduct A k (parts last) μ -ℤ part β k) ≤ residueLimit
   residue-fits μ inside k below =
-      difference-fits A μ k (parts last) (row-fits A (parts last) rows-fit (omega (arith, fitting .years)) k below (diagonal-fits k below)) inside (part β k) (fitting .right-hand k below)
+      let row = row-fits A (parts last) rows-fit (omega (arith, fitting .years)) k below (diagonal-fits k below) in
+      difference-fits A μ k (parts last) row inside (part β k) (fitting .right-hand k below)

@@ -17,8 +17,8 @@ use Rattle.definitions.specs.Refusals.{partLimit}
 use Rattle.laws.specs.StepLaws.{bringBack-inside}
 use Rattle.chain.specs.declared.arrays.Working.{Working}
 use Rattle.chain.specs.Arrays.{meanOf, cell, system, heldRightHand, held}
-use Rattle.chain.specs.Fitting.{Fitting, Inside, diagonalLimit, rowLimit, rightHandLimit}
-use Rattle.chain.specs.Held.{held-difference, moved, stepped, step-is, mean-set, followed-is, held-same}
+use Rattle.chain.specs.Fitting.{Fitting, Inside, diagonalLimit, residueLimit}
+use Rattle.chain.specs.Held.{held-difference, moved, stepped, step-is, mean-set, followed-is, held-same, dividend, meanAfter}
 use Rattle.chain.specs.Sizes.{diagonal-from, diagonal-fits, cell-fits, residue-fits}
 use Rattle.chain.specs.Step.{Follows, Followed, Steps, Stepped}
 
@@ -50,18 +50,19 @@ module _ {last : ℕ} {A : List ℤ} {w : Working} {k : ℕ} (h : Steps last A w
   pub diagonal-positive : pos 1 ≤ℤ cell A k k
   diagonal-positive = diagonal-from last A (heldRightHand last A w) held-fits k (h .below)
 
-  pub residue-small : natAbs (part (w .residues) k) ≤ rowLimit * partLimit + rightHandLimit
+  pub residue-small : natAbs (part (w .residues) k) ≤ residueLimit
   residue-small =
-      omega (arith, residue-fits last A (heldRightHand last A w) held-fits (w .mean) (h .inside) k (h .below), ap natAbs (held-difference last A w k (h .below)))
+      let fits = residue-fits last A (heldRightHand last A w) held-fits (w .mean) (h .inside) k (h .below) in
+      omega (arith, fits, ap natAbs (held-difference last A w k (h .below)))
 
   pub half-small : natAbs (cell A k k) / 2 ≤ diagonalLimit
   half-small = omega (arith, diagonal-small)
 
-  pub dividend-small : natAbs (pos (natAbs (cell A k k) / 2) -ℤ part (w .residues) k) ≤ diagonalLimit + (rowLimit * partLimit + rightHandLimit)
+  pub dividend-small : natAbs (dividend A w k) ≤ diagonalLimit + residueLimit
   dividend-small = le-trans (natAbs-- (pos (natAbs (cell A k k) / 2)) (part (w .residues) k)) (omega (arith, half-small, residue-small))
 
-  pub quotient-small : natAbs (moved A w k) ≤ diagonalLimit + (rowLimit * partLimit + rightHandLimit) + 1
-  quotient-small = omega (arith, floor-size (pos (natAbs (cell A k k) / 2) -ℤ part (w .residues) k) (natAbs (cell A k k)), dividend-small)
+  pub quotient-small : natAbs (moved A w k) ≤ diagonalLimit + residueLimit + 1
+  quotient-small = omega (arith, floor-size (dividend A w k) (natAbs (cell A k k)), dividend-small)
 
   pub moved-small : natAbs (part (w .mean) k +ℤ moved A w k) < 2 ^ 63
   moved-small = omega (arith, natAbs-+ (part (w .mean) k) (moved A w k), h .inside .small k (h .below), quotient-small)
@@ -75,15 +76,17 @@ module _ {last : ℕ} {A : List ℤ} {w : Working} {k : ℕ} (h : Steps last A w
   change-small = omega (arith, natAbs-- (stepped A w k) (part (w .mean) k), fresh-small, h .inside .small k (h .below))
 
   module _ (long : parts last ≤ length (w .mean)) where
-    pub still-inside : Inside (parts last) (set (w .mean) k (stepped A w k))
+    pub still-inside : Inside (parts last) (meanAfter A w k)
     still-inside = record { small = λ i i-below. by-place i i-below (ℕ-discrete i k) }
       where
-        by-place : (i : ℕ) → i < parts last → Dec (i ≡ k) → natAbs (part (set (w .mean) k (stepped A w k)) i) ≤ partLimit
+        by-place : (i : ℕ) → i < parts last → Dec (i ≡ k) → natAbs (part (meanAfter A w k) i) ≤ partLimit
         by-place i i-below (yes here) =
-            let is : part (set (w .mean) k (stepped A w k)) i ≡ stepped A w k =
-            ap (part (set (w .mean) k (stepped A w k))) here ∙ getD-set-same (w .mean) k (stepped A w k) (pos 0) (omega (arith, h .below)) in
+            let new = getD-set-same (w .mean) k (stepped A w k) (pos 0) (omega (arith, h .below)) in
+            let is : part (meanAfter A w k) i ≡ stepped A w k = ap (part (meanAfter A w k)) here ∙ new in
             omega (arith, ap natAbs is, fresh-small)
-        by-place i i-below (no apart) = omega (arith, ap natAbs (getD-set-other (w .mean) k i (stepped A w k) (pos 0) apart), h .inside .small i i-below)
+        by-place i i-below (no apart) =
+            let kept = getD-set-other (w .mean) k i (stepped A w k) (pos 0) apart in
+            omega (arith, ap natAbs kept, h .inside .small i i-below)
 
     -- d and z are the change and the part as the code has them
     pub follows : length (w .residues) ≡ 31 → {d : ℤ} → d ≡ stepped A w k -ℤ part (w .mean) k → Follows last A (w .residues) k d
@@ -96,7 +99,7 @@ module _ {last : ℕ} {A : List ℤ} {w : Working} {k : ℕ} (h : Steps last A w
       sums = λ l l-below. omega (
         arith,
         ap natAbs (followed-is last A w long k (h .below) (stepped A w k) l l-below),
-        residue-fits last A (heldRightHand last A w) held-fits (set (w .mean) k (stepped A w k)) still-inside l l-below,
+        residue-fits last A (heldRightHand last A w) held-fits (meanAfter A w k) still-inside l l-below,
       );
     })
 
@@ -104,9 +107,11 @@ module _ {last : ℕ} {A : List ℤ} {w : Working} {k : ℕ} (h : Steps last A w
         → Stepped last A w k (record { mean = set (w .mean) k z; residues = v })
     done {z} {d} z-is d-is v followed =
         let r : Working = record { mean = set (w .mean) k z; residues = v } in
-        let mean-is : set (w .mean) k z ≡ set (w .mean) k (stepped A w k) = ap (set (w .mean) k) z-is in
+        let mean-is : set (w .mean) k z ≡ meanAfter A w k = ap (set (w .mean) k) z-is in
         record {
-          mean = ap (meanOf last) mean-is ∙ mean-set last (w .mean) long k (h .below) (stepped A w k) ∙ sym (step-is last A w k (h .below) diagonal-positive);
+          mean = ap (meanOf last) mean-is
+              ∙ mean-set last (w .mean) long k (h .below) (stepped A w k)
+              ∙ sym (step-is last A w k (h .below) diagonal-positive);
           residues = held-same last A w long k (h .below) (stepped A w k) r mean-is
               (λ i i-below. followed .at i i-below ∙ ap (λ e. part (w .residues) i +ℤ cell A i k *ℤ e) d-is);
           inside = subst (Inside (parts last)) (sym mean-is) still-inside;

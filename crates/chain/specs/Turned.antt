@@ -38,9 +38,13 @@ module _ {fresh old : ℕ → ℤ} {v : List ℤ} where
       by-place i (inr earlier) = getD-set-other v k i z (pos 0) (λ same. omega arith) ∙ h .front i earlier
 
 -- the same array, where its numbers are known as others
-pub turned-as : {k : ℕ} {fresh fresh′ old old′ : ℕ → ℤ} {v : List ℤ} → Turned k fresh old v → ((i : ℕ) → i < k → fresh i ≡ fresh′ i) → ((i : ℕ) → k ≤ i → old i ≡ old′ i)
-    → Turned k fresh′ old′ v
-turned-as h front rest = record { long = h .long; front = λ i below. h .front i below ∙ front i below; rest = λ i from. h .rest i from ∙ rest i from }
+pub turned-as : {k : ℕ} {fresh fresh′ old old′ : ℕ → ℤ} {v : List ℤ} → Turned k fresh old v
+    → ((i : ℕ) → i < k → fresh i ≡ fresh′ i) → ((i : ℕ) → k ≤ i → old i ≡ old′ i) → Turned k fresh′ old′ v
+turned-as h front rest = record {
+  long = h .long;
+  front = λ i below. h .front i below ∙ front i below;
+  rest = λ i from. h .rest i from ∙ rest i from;
+}
 
 -- what holds below k and at k holds below k + 1
 pub here-or-before : (P : ℕ → Type 0) (k : ℕ) → P k → ((i : ℕ) → i < k → P i) → (i : ℕ) → i < k + 1 → P i

@@ -17,7 +17,7 @@ fn floor(x: i64, d: i64) -> i64
     if x < 0 { -1 - (-1 - x) / d } else { x / d }
 }
 
-// The nearest of −2^26 and 2^26 where z is outside them.
+// z itself, or the limit that it has passed.
 fn brought_back(z: i64) -> i64
     ensures { λ r. ⌜ r ≡ bringBack z ⌝ }
 {
@@ -51,8 +51,8 @@ fn follow(last: usize, matrix: &[i64; 961], residues: &mut [i64; 31], k: usize, 
     }
 }
 
-// Part k changes by floor((A_kk − 2·residue) / (2·A_kk)) and is brought back; residues follow. Half of A_kk is rounded down first,
-// which gives the same number and keeps twice a residue out of the 64 bits.
+// The step of part k, by document 01's "Sweep". Half of A_kk is rounded down before the residue is taken from it: that gives the same
+// change, and twice a residue, which 64 bits do not hold, is never formed.
 fn step(last: usize, matrix: &[i64; 961], working: Working, k: usize) -> Working
     requires { ⌜ Steps last (now matrix) working k ⌝ }
     ensures { λ r. ⌜ Stepped last (now (matrix .entry)) working k r ⌝ }

@@ -1,5 +1,5 @@
 // One sweep, and the sweeps of a call.
-ghost use Rattle.chain.specs.Sweep.{OfSystem, OneSwept};
+ghost use Rattle.chain.specs.Sweep.{OfSystem, OneSwept, OfParts, SweptFrom};
 ghost use Rattle.chain.specs.Arrays.{figuresAt};
 ghost use Rattle.chain.specs.Sweeps.{Sweeps, SweptTo};
 use crate::arrays::Working;
@@ -15,19 +15,32 @@ pub struct Swept {
     pub passes: bool,
 }
 
-// One step of each part, in order.
-pub fn one_sweep(last: usize, matrix: &[i64; 961], working: Working) -> Working
-    requires { ⌜ OfSystem last (now matrix) working ⌝ }
-    ensures { λ r. ⌜ OneSwept last (now (matrix .entry)) working r ⌝ }
+// One step of each of the parts from `first` on that stand before `end`, in order.
+fn sweep_from(
+    last: usize,
+    matrix: &[i64; 961],
+    working: Working,
+    first: usize,
+    end: usize,
+) -> Working
+    requires { ⌜ OfParts last (now matrix) working end ⌝ }
+    ensures { λ r. ⌜ SweptFrom last (now (matrix .entry)) working first end r ⌝ }
 {
-    let parts = 2 * last + 1;
     let mut current = working;
-    let mut k = 0;
-    while k < parts {
+    let mut k = first;
+    while k < end {
         step_in(&mut current, last, matrix, k);
         k += 1;
     }
     current
+}
+
+// One sweep: the parts 0..2J.
+pub fn one_sweep(last: usize, matrix: &[i64; 961], working: Working) -> Working
+    requires { ⌜ OfSystem last (now matrix) working ⌝ }
+    ensures { λ r. ⌜ OneSwept last (now (matrix .entry)) working r ⌝ }
+{
+    sweep_from(last, matrix, working, 0, 2 * last + 1)
 }
 
 // Up to n sweeps, none once the mean passes or the total is 4,096. The right-hand side is in the residues: it is lent for the
@@ -43,7 +56,8 @@ pub fn sweeps<'a>(
     n: u64,
 ) -> Swept
     requires { ⌜ Sweeps (figuresAt last closeness (now own) (now matrix) (now «_right_hand»)) working ⌝ }
-    ensures { λ r. ⌜ SweptTo (figuresAt last closeness (now (own .entry)) (now (matrix .entry)) (now («_right_hand» .entry))) working total n r ⌝ }
+    ensures { λ r.
+        ⌜ SweptTo (figuresAt last closeness (now (own .entry)) (now (matrix .entry)) (now («_right_hand» .entry))) working total n r ⌝ }
 {
     let mut current = working;
     let mut run = total;

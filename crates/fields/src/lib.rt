@@ -3,11 +3,17 @@ ghost use mathlib.Core.Path.{_≡_};
 ghost use Prim.Native.Nat.{_+_, _≤_};
 ghost use lib.ListN.{length};
 ghost use Rattle.definitions.specs.Layout.{unsigned};
-ghost use Rattle.fields.specs.Fields.{fieldAt, signedFieldAt};
+ghost use Rattle.fields.specs.Fields.{byteFieldAt, fieldAt, signedFieldAt};
 
 pub enum Field {
     Value(u64),
     // Fewer bytes are left than the field has.
+    End,
+}
+
+// Of one byte.
+pub enum ByteField {
+    Value(u8),
     End,
 }
 
@@ -16,7 +22,7 @@ pub enum SignedField {
     End,
 }
 
-// Big-endian: the one loop for every width.
+// Big-endian: one loop for the longer fields.
 fn number(s: &[u8], at: usize, width: usize) -> u64
     requires { ⌜ (width ≤ 8) × (at + width ≤ length (now s)) ⌝ }
     ensures { λ r. ⌜ r ≡ unsigned width at (now (s .entry)) ⌝ }
@@ -44,10 +50,14 @@ fn unsigned(s: &[u8], at: usize, width: usize) -> Field
     Field::Value(number(s, at, width))
 }
 
-pub fn unsigned_1(s: &[u8], at: usize) -> Field
-    ensures { λ r. ⌜ r ≡ fieldAt 1 at (now (s .entry)) ⌝ }
+pub fn unsigned_1(s: &[u8], at: usize) -> ByteField
+    ensures { λ r. ⌜ r ≡ byteFieldAt at (now (s .entry)) ⌝ }
 {
-    unsigned(s, at, 1)
+    if at < s.len() {
+        ByteField::Value(s[at])
+    } else {
+        ByteField::End
+    }
 }
 
 pub fn unsigned_4(s: &[u8], at: usize) -> Field

@@ -63,7 +63,8 @@ pub passed : {c : Check} {x : refusals.Check} → told c ≡ x → c ≡ Clear �
 passed e k = sym e ∙ ap told k
 
 -- one that refused is the answer
-pub stopped : {c : Check} {x : refusals.Check} {number place : ℕ} (y : refusals.Check) → told c ≡ x → c ≡ Refuses number place → told c ≡ x then y
+pub stopped : {c : Check} {x : refusals.Check} {number place : ℕ} (y : refusals.Check) → told c ≡ x → c ≡ Refuses number place
+    → told c ≡ x then y
 stopped y e k = ap told k ∙ ap (λ z. z then y) (sym (ap told k) ∙ e)
 
 -- both were clear
@@ -78,13 +79,15 @@ then-assoc clear (refuses number place) c d = refl
 then-assoc (refuses number place) b c d = refl
 
 -- a record's checks are those of its head, and then 11
-pub record-checks : (J : ℕ) (r : Bytes) → recordCheck J r ≡ recordHead J r then fields (λ k. goodPart (signed (partAt k) r)) 11 partAt 0 (parts J)
+pub record-checks : (J : ℕ) (r : Bytes)
+    → recordCheck J r ≡ recordHead J r then fields (λ k. goodPart (signed (partAt k) r)) 11 partAt 0 (parts J)
 unfolding recordCheck recordHead
 record-checks J r = sym (then-assoc (lengthCheck 5 r) (unless (eqb (version r) 1) 2 4) (unless (eqb (length r) (recordLength J)) 4 0) _)
 
 -- ---- the fields of a number, n of them, one after another
 
-pub fields-clear : (good : ℕ → Bool) (number : ℕ) (place : ℕ → ℕ) (i n : ℕ) → ((k : ℕ) → k < n → good (i + k) ≡ true) → fields good number place i n ≡ clear
+pub fields-clear : (good : ℕ → Bool) (number : ℕ) (place : ℕ → ℕ) (i n : ℕ) → ((k : ℕ) → k < n → good (i + k) ≡ true)
+    → fields good number place i n ≡ clear
 unfolding fields
 fields-clear good number place i zero all = refl
 fields-clear good number place i (suc n) all =
@@ -124,8 +127,10 @@ module _ {good : ℕ → Bool} {number : ℕ} {place : ℕ → ℕ} {n i : ℕ} 
 
 -- ---- a run of fields is the fields of a number, where its places are theirs
 
-module _ (s : Bytes) (number : ℕ) (run : Run) {place : ℕ → ℕ} {n : ℕ} (places : (k : ℕ) → placeIn run k ≡ place k) (all : run .count ≡ n) where
-  pub unsigned-run : (low high : ℕ) → unsignedRun s number run low high ≡ fields (λ k. within low high (unsigned 8 (place k) s)) number place 0 n
+module _ (s : Bytes) (number : ℕ) (run : Run) {place : ℕ → ℕ} {n : ℕ}
+    (places : (k : ℕ) → placeIn run k ≡ place k) (all : run .count ≡ n) where
+  pub unsigned-run : (low high : ℕ)
+      → unsignedRun s number run low high ≡ fields (λ k. within low high (unsigned 8 (place k) s)) number place 0 n
   unfolding unsignedRun
   unsigned-run low high = ap₂ (λ p m. fields (λ k. within low high (unsigned 8 (p k) s)) number p 0 m) (fun-ext places) all
 
@@ -137,7 +142,9 @@ module _ (s : Bytes) (number : ℕ) (run : Run) {place : ℕ → ℕ} {n : ℕ} 
 
 pub length-least : (least : ℕ) (s : Bytes) → lengthCheck least s ≡ clear → least ≤ length s
 length-least least s e =
-    leb-true least (length s) (and-true (leb least (length s)) (eqb (lengthWord s) (length s)) (unless-clear (leb least (length s) && eqb (lengthWord s) (length s)) 1 0 e) .0)
+    let enough = leb least (length s) in
+    let right = eqb (lengthWord s) (length s) in
+    leb-true least (length s) (and-true enough right (unless-clear (enough && right) 1 0 e) .0)
 
 pub whole : (s : Bytes) → check3 s ≡ clear → check4 s ≡ clear → Whole s
 unfolding check3 check4

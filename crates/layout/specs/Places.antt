@@ -32,7 +32,8 @@ row-starts J (suc i) h =
     let next : J + 2 - i ≡ m + 2 = omega arith in
     let left : J + 1 - suc i ≡ m = omega arith in
     let top : J + 2 - suc i ≡ m + 1 = omega arith in
-    rw (← add-one i, row-start-next J i, add-one i, here, left, top) (one-row (rowStart J i) m ∙ rw (here, next) at (row-starts J i (omega arith)))
+    rw (← add-one i, row-start-next J i, add-one i, here, left, top)
+    (one-row (rowStart J i) m ∙ rw (here, next) at (row-starts J i (omega arith)))
 
 -- a block has as many cells as the rows of its J + 1 years
 pub cells-twice : (J : ℕ) → 2 * cells J ≡ (J + 1) * (J + 2)
@@ -44,10 +45,6 @@ cells-twice J =
 -- a row ends inside its block
 pub row-inside : (J i : ℕ) → i ≤ J → rowStart J i + (J + 1 - i) ≤ cells J
 row-inside J i h = omega (arith, row-starts J (i + 1) (omega arith), row-start-next J i)
-
--- cell j of the row of year i is a cell of its block
-pub cell-inside : (J i j : ℕ) → i + j ≤ J → rowStart J i + j < cells J
-cell-inside J i j h = omega (arith, row-inside J i (omega arith))
 
 pub cells-few : (J : ℕ) → J ≤ 15 → cells J ≤ 136
 cells-few J h =

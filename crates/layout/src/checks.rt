@@ -4,6 +4,7 @@ ghost use Prim.Native.Nat.{_≤_};
 ghost use lib.ListN.{length};
 ghost use Rattle.definitions.specs.Refusals.{check2};
 ghost use Rattle.layout.specs.Checks.{told, lengthCheck, runInside, unsignedRun, signedRun};
+use fields::ByteField;
 use fields::Field;
 use fields::SignedField;
 use fields::signed_4;
@@ -98,7 +99,7 @@ fn check_version(s: &[u8]) -> Check
     requires { ⌜ 5 ≤ length (now s) ⌝ }
     ensures { λ r. ⌜ told r ≡ check2 (now (s .entry)) ⌝ }
 {
-    let Field::Value(version) = unsigned_1(s, 4) else {
+    let ByteField::Value(version) = unsigned_1(s, 4) else {
         return Check::Refuses(2, 4);
     };
     if version != 1 {

@@ -1,12 +1,17 @@
 // Where the fields of a file stand, by its last development year J. J is a byte of the file, so that none of these overflows.
 ghost use mathlib.Core.Path.{_≡_};
 ghost use Rattle.definitions.specs.Layout.{lastYear, parts, cells, amountAt, fileLength, recordLength};
+use fields::ByteField;
+use fields::unsigned_1;
 
 // J; of a string that ends before it, 0.
 pub fn last_year(s: &[u8]) -> u8
     ensures { λ r. ⌜ r ≡ lastYear (now (s .entry)) ⌝ }
 {
-    if 5 < s.len() { s[5] } else { 0 }
+    let ByteField::Value(last) = unsigned_1(s, 5) else {
+        return 0;
+    };
+    last
 }
 
 // Parts of a mean, and variances, and priors.

@@ -1,22 +1,20 @@
-// The rows of the two blocks: a row's start, its cells, and the row itself as a part of the file.
+// The rows of the two blocks: a row's start, where it stands, and the row itself as a part of the file.
 ghost use mathlib.Core.Path.{_≡_};
-ghost use Prim.Native.Nat.{_+_, _-_, _≤_};
+ghost use Prim.Native.Nat.{_-_, _≤_};
 ghost use mathlib.Core.Bool.{cond};
 ghost use lib.ListN.{length, take, drop};
 ghost use lib.Dec.{eqb};
-ghost use Rattle.definitions.specs.Layout.{lastYear, rowStart, paid, incurred, rowBytes};
+ghost use Rattle.definitions.specs.Layout.{rowStart, rowBytes};
 ghost use Rattle.definitions.specs.Refusals.{rowCheck};
 ghost use Rattle.definitions.specs.Machine.{rowPart};
-ghost use Rattle.layout.specs.Checks.{told, Whole};
+ghost use Rattle.layout.specs.Checks.{told};
 ghost use Rattle.layout.specs.CheckLaws.{Shown};
 ghost use Rattle.readings.specs.Rows.{Places};
-use crate::amount_of;
 use layout::checks::Check;
 use layout::checks::file::check_file;
 use layout::places::amounts_at;
 use layout::places::cells_of;
 use layout::places::last_year;
-use scales::Amount;
 
 // Cells of a block before the row of a year.
 fn row_start(last: u8, year: usize) -> usize
@@ -31,23 +29,6 @@ fn row_start(last: u8, year: usize) -> usize
         i += 1;
     }
     cells
-}
-
-// P_(i,j).
-pub fn paid_at(s: &[u8], i: usize, j: usize) -> Amount
-    requires { ⌜ Whole (now s) × (i + j ≤ lastYear (now s)) ⌝ }
-    ensures { λ r. ⌜ r .0 ≡ paid (now (s .entry)) i j ⌝ }
-{
-    amount_of(s, row_start(last_year(s), i) + j)
-}
-
-// I_(i,j).
-pub fn incurred_at(s: &[u8], i: usize, j: usize) -> Amount
-    requires { ⌜ Whole (now s) × (i + j ≤ lastYear (now s)) ⌝ }
-    ensures { λ r. ⌜ r .0 ≡ incurred (now (s .entry)) i j ⌝ }
-{
-    let last = last_year(s);
-    amount_of(s, cells_of(last) + (row_start(last, i) + j))
 }
 
 // The bytes start..end of the paid block, or of the incurred block.
@@ -98,7 +79,7 @@ fn shown_row(s: &[u8], channel: usize, year: usize) -> &[u8]
     part(&s[start..middle], &s[middle..], channel, first, end)
 }
 
-// The row of a year in the paid block (channel 0) or in the incurred block (1); an empty part exactly where it is refused.
+// A year's row, from the block of the channel; empty exactly where `row_told` refuses.
 pub fn row(s: &[u8], channel: usize, year: usize) -> &[u8]
     ensures { λ r. ⌜ now r ≡ rowPart (now (s .entry)) channel year ⌝ }
 {

@@ -2,20 +2,20 @@
 use mathlib.Core.Path.{_≡_, refl, sym, ap, ap₂, _∙_}
 use mathlib.Core.Bool.{true, false}
 use mathlib.Core.List.{List, [], _∷_, _++_, append-assoc, append-nil}
-use Prim.Native.Nat.{ℕ, suc, _+_, _*_, _-_, _≤_, _<_, _^_}
+use Prim.Native.Nat.{ℕ, suc, _+_, _*_, _-_, _/_, _%_, _≤_, _<_, _^_}
 use native.Mathlib.Nat.{zero-add}
-use native.Mathlib.Numerals.{add-one}
+use native.Mathlib.Numerals.{add-one, add-two, add-three}
 use native.Mathlib.Omega.{arith}
 use borrow.Author.Tests.{ltb-true}
 use lib.IntN.{ℤ, pos, negsuc, natAbs, _+ℤ_}
 use lib.ListN.{length, take, drop, set, replicate, length-append, take-append-drop, getD}
-use lib.Seq.{set-at, take-at, drop-append-add, drop-drop, drop-cons, length-take-le}
+use lib.Seq.{set-at, sets-eq, take-at, drop-append-add, drop-drop, drop-cons, length-take-le}
 use lib.Signed.{ltZ}
 use Rattle.integers.specs.Linear.{linear}
 use Rattle.definitions.specs.Words.{tabFrom, part}
 use Rattle.definitions.specs.Layout.{Bytes, parts, recordLength, bytesOf, fourBytes, partBytes, recordOf}
 use Rattle.definitions.specs.Refusals.{partLimit}
-use Rattle.records.specs.Records.{tab-length, tab-snoc, bytes-length, part-bytes-length, part-bytes-snoc}
+use Rattle.records.specs.Records.{FourPut, withParts, tab-length, tab-snoc, bytes-length, part-bytes-length, part-bytes-snoc}
 
 -- ---- reading: part k in place of the first zero
 
@@ -41,12 +41,21 @@ unfolding fourBytes
 four-positive (pos n) e = refl
 four-positive (negsuc n) e = cc
 
--- ---- writing: the bytes of part k behind those of the parts before it
+-- ---- writing: four bytes, from the place `at` on
+
+pub four-put : (b : Bytes) (v at : ℕ) {i j k : ℕ} → i ≡ at + 1 → j ≡ at + 2 → k ≡ at + 3 → at + 4 ≤ length b
+    → FourPut b at v (set (set (set (set b at (v / 256 / 256 / 256 % 256)) i (v / 256 / 256 % 256)) j (v / 256 % 256)) k (v % 256))
+unfolding bytesOf
+four-put b v at {i} {j} {k} second third fourth room = record {
+  is = rw (second ∙ add-one at, third ∙ add-two at, fourth ∙ add-three at)
+      (sets-eq (v / 256 / 256 / 256 % 256 ∷ v / 256 / 256 % 256 ∷ v / 256 % 256 ∷ v % 256 ∷ []) b at room);
+}
+
+-- ---- the bytes of part k behind those of the parts before it
 
 module _ (b : Bytes) (μ : List ℤ) where
-  -- the buffer with k parts behind its first five bytes
-  abbrev pub put : ℕ → Bytes
-  put k = take 5 b ++ partBytes 0 k μ ++ drop (5 + 4 * k) b
+  abbrev put : ℕ → Bytes
+  put = withParts b μ
 
   pub put-none : b ≡ put 0
   unfolding partBytes
@@ -58,20 +67,29 @@ module _ (b : Bytes) (μ : List ℤ) where
   written-length : (k : ℕ) → 5 ≤ length b → length (written k) ≡ 5 + 4 * k
   written-length k h = length-append (take 5 b) (partBytes 0 k μ) ∙ ap₂ _+_ (length-take-le 5 b h) (part-bytes-length μ 0 k)
 
-  pub put-next : (k : ℕ) → 5 + 4 * k + 4 ≤ length b
-      → take (5 + 4 * k) (put k) ++ bytesOf 4 (fourBytes (part μ k)) ++ drop (5 + 4 * k + 4) (put k) ≡ put (k + 1)
-  put-next k h =
+  -- part k is written: v at the place p of the buffer c, which then is d
+  pub put-next : (k : ℕ) {c d : Bytes} {p v : ℕ} → c ≡ put k → FourPut c p v d
+      → p ≡ 5 + 4 * k → v ≡ fourBytes (part μ k) → 5 + 4 * k + 4 ≤ length b → d ≡ put (k + 1)
+  put-next k {c} {d} {p} {v} so-far stored place value room =
+      let at = 5 + 4 * k in
       let four = bytesOf 4 (fourBytes (part μ k)) in
-      let long : length (written k) ≡ 5 + 4 * k = written-length k (omega arith) in
-      let front : take (5 + 4 * k) (put k) ≡ written k = take-at (written k) (drop (5 + 4 * k) b) (5 + 4 * k) long in
-      let place : 5 + 4 * k + 4 ≡ 5 + 4 * (k + 1) = omega arith in
-      let behind : drop (5 + 4 * k + 4) (put k) ≡ drop (5 + 4 * (k + 1)) b
-      = ap (λ n. drop (n + 4) (put k)) (sym long) ∙ drop-append-add (written k) (drop (5 + 4 * k) b) 4 ∙ drop-drop 4 (5 + 4 * k) b ∙ ap (λ n. drop n b) place in
-      let more : written k ++ four ≡ written (k + 1)
-      = append-assoc (take 5 b) (partBytes 0 k μ) four
-      ∙ ap (λ l. take 5 b ++ l)
-      (ap (λ j. partBytes 0 k μ ++ bytesOf 4 (fourBytes (part μ j))) (sym (zero-add k)) ∙ sym (part-bytes-snoc μ 0 k) ∙ ap (λ n. partBytes 0 n μ) (sym (add-one k))) in
-      ap₂ (λ x y. x ++ four ++ y) front behind ∙ ap (λ l. l ++ drop (5 + 4 * (k + 1)) b) more
+      let long : length (written k) ≡ at = written-length k (omega arith) in
+      let front : take at (put k) ≡ written k = take-at (written k) (drop at b) at long in
+      let next : at + 4 ≡ 5 + 4 * (k + 1) = omega arith in
+      let behind : drop (at + 4) (put k) ≡ drop (5 + 4 * (k + 1)) b =
+      ap (λ n. drop (n + 4) (put k)) (sym long)
+      ∙ drop-append-add (written k) (drop at b) 4
+      ∙ drop-drop 4 at b
+      ∙ ap (λ n. drop n b) next in
+      let one-more : partBytes 0 k μ ++ four ≡ partBytes 0 (k + 1) μ =
+      ap (λ j. partBytes 0 k μ ++ bytesOf 4 (fourBytes (part μ j))) (sym (zero-add k))
+      ∙ sym (part-bytes-snoc μ 0 k)
+      ∙ ap (λ n. partBytes 0 n μ) (sym (add-one k)) in
+      let more : written k ++ four ≡ written (k + 1) =
+      append-assoc (take 5 b) (partBytes 0 k μ) four ∙ ap (λ l. take 5 b ++ l) one-more in
+      rw (so-far, place, value) at (stored .is)
+      ∙ ap₂ (λ x y. x ++ four ++ y) front behind
+      ∙ ap (λ l. l ++ drop (5 + 4 * (k + 1)) b) more
 
 -- ---- the header before the parts
 
@@ -91,7 +109,7 @@ module _ (J : ℕ) (b : Bytes) (μ : List ℤ) where
   unfolding header
   header-behind = sym (append-assoc (bytesOf 4 (recordLength J)) (1 ∷ []) (drop 5 b))
 
-  pub record-put : put headed μ (parts J) ≡ recordOf J μ ++ drop (recordLength J) b
+  pub record-put : withParts headed μ (parts J) ≡ recordOf J μ ++ drop (recordLength J) b
   unfolding header
   record-put =
       let front : take 5 headed ≡ header = ap (take 5) header-behind ∙ take-at header (drop 5 b) 5 header-length in

@@ -59,5 +59,6 @@ head-clear {last} {r} h parsed = record {
 pub head-length : (last : ℕ) (r : Bytes) → recordHead last r ≡ clear → length r ≡ recordLength last
 unfolding recordHead
 head-length last r h =
-    eqb-true (length r) (recordLength last)
-    (unless-clear (eqb (length r) (recordLength last)) 4 0 (then-clear (unless (eqb (version r) 1) 2 4) _ (then-clear (lengthCheck 5 r) _ h .1) .1))
+    let behind-1 = then-clear (lengthCheck 5 r) _ h .1 in
+    let behind-2 = then-clear (unless (eqb (version r) 1) 2 4) _ behind-1 .1 in
+    eqb-true (length r) (recordLength last) (unless-clear (eqb (length r) (recordLength last)) 4 0 behind-2)

@@ -20,6 +20,18 @@ use Rattle.layout.specs.CheckLaws.{fields-clear}
 abbrev pub InLimits : ℕ → List ℤ → Type 0
 InLimits n μ = (k : ℕ) → k < n → natAbs (part μ k) ≤ partLimit
 
+-- what a writer of records asks of the mean and of the buffer
+abbrev pub Writes : ℕ → List ℤ → Bytes → Type 0
+Writes last μ b = (last ≤ 15) × (recordLength last ≤ length b) × InLimits (parts last) μ
+
+-- four bytes of the number v at the place `at` of a buffer b, in place of those that were there
+pub record FourPut (b : Bytes) (at v : ℕ) (r : Bytes) : Type 0 where
+  pub is : r ≡ take at b ++ bytesOf 4 v ++ drop (at + 4) b
+
+-- a buffer with k parts behind its first five bytes; the bytes behind them are as they were
+abbrev pub withParts : Bytes → List ℤ → ℕ → Bytes
+withParts b μ k = take 5 b ++ partBytes 0 k μ ++ drop (5 + 4 * k) b
+
 -- ---- tables
 
 module _ {A : Type 0} (f : ℕ → A) where
@@ -114,8 +126,10 @@ module _ (J : ℕ) (μ : List ℤ) (inside : InLimits (parts J) μ) where
   part-read k h =
       let header = bytesOf 4 (recordLength J) in
       let place : 5 + 4 * k ≡ length header + suc (4 * k) = omega (arith, bytes-length 4 (recordLength J)) in
-      let bytes : take 4 (drop (5 + 4 * k) (recordOf J μ)) ≡ bytesOf 4 (fourBytes (part μ k))
-      = ap (λ m. take 4 (drop m (recordOf J μ))) place ∙ ap (take 4) (drop-append-add header (1 ∷ partBytes 0 (parts J) μ) (suc (4 * k))) ∙ part-bytes-at μ 0 (parts J) k h
+      let bytes : take 4 (drop (5 + 4 * k) (recordOf J μ)) ≡ bytesOf 4 (fourBytes (part μ k)) =
+      ap (λ m. take 4 (drop m (recordOf J μ))) place
+      ∙ ap (take 4) (drop-append-add header (1 ∷ partBytes 0 (parts J) μ) (suc (4 * k)))
+      ∙ part-bytes-at μ 0 (parts J) k h
       ∙ ap (λ i. bytesOf 4 (fourBytes (part μ i))) (zero-add k) in
       ap (λ l. twosComplement (bigEndian 0 l)) bytes
       ∙ ap twosComplement (bytes-read 4 (fourBytes (part μ k)) (four-small (part μ k) (inside k h)))
@@ -124,8 +138,10 @@ module _ (J : ℕ) (μ : List ℤ) (inside : InLimits (parts J) μ) where
   pub mean-read : length μ ≡ parts J → meanOf J (recordOf J μ) ≡ μ
   mean-read e =
       let f : ℕ → ℤ = λ k. signed (partAt k) (recordOf J μ) in
-      ext-getD (pos 0) (meanOf J (recordOf J μ)) μ (tab-length f 0 (parts J) ∙ sym e)
-      (λ k h. let in-range : k < parts J = omega (arith, tab-length f 0 (parts J)) in tab-part f (pos 0) 0 (parts J) k in-range ∙ ap f (zero-add k) ∙ part-read k in-range)
+      let long = tab-length f 0 (parts J) in
+      ext-getD (pos 0) (meanOf J (recordOf J μ)) μ (long ∙ sym e) (λ k h.
+      let below : k < parts J = omega (arith, long) in
+      tab-part f (pos 0) 0 (parts J) k below ∙ ap f (zero-add k) ∙ part-read k below)
 
 -- ---- what is written is not refused
 
@@ -144,7 +160,8 @@ length-read J μ small =
 version-read : (J : ℕ) (μ : List ℤ) → version (recordOf J μ) ≡ 1
 unfolding unsigned bigEndian
 version-read J μ =
-    ap (λ l. bigEndian 0 (take 1 l)) (drop-at (bytesOf 4 (recordLength J)) (1 ∷ partBytes 0 (parts J) μ) 4 (bytes-length 4 (recordLength J)))
+    ap (λ l. bigEndian 0 (take 1 l))
+    (drop-at (bytesOf 4 (recordLength J)) (1 ∷ partBytes 0 (parts J) μ) 4 (bytes-length 4 (recordLength J)))
 
 pub record-clear : (J : ℕ) (μ : List ℤ) → J ≤ 15 → InLimits (parts J) μ → recordCheck J (recordOf J μ) ≡ clear
 unfolding recordCheck

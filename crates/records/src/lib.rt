@@ -1,11 +1,11 @@
 // Mean records: the mean that a record holds, or why it is refused, and the record of a mean.
 ghost use mathlib.Core.Path.{_≡_};
 ghost use mathlib.Core.List.{_∷_, _++_};
-ghost use Prim.Native.Nat.{_+_, _-_, _≤_, _^_};
-ghost use lib.ListN.{length, take, drop};
+ghost use Prim.Native.Nat.{_+_, _≤_, _^_};
+ghost use lib.ListN.{length, drop};
 ghost use lib.IntN.{natAbs};
-ghost use Rattle.definitions.specs.Layout.{parts, recordLength, recordOf, bytesOf, fourBytes, partBytes};
-ghost use Rattle.records.specs.Records.{InLimits};
+ghost use Rattle.definitions.specs.Layout.{parts, recordLength, recordOf, bytesOf, fourBytes};
+ghost use Rattle.records.specs.Records.{Writes, FourPut, withParts};
 ghost use Rattle.records.specs.Parse.{ParsedParts, ParsedRecord};
 use fields::SignedField;
 use fields::signed_4;
@@ -87,7 +87,7 @@ fn four_bytes(z: i64) -> u64
 // Four bytes of a number, first byte highest, in place of those that were there.
 fn put_four(buf: &mut [u8], at: usize, v: u64)
     requires { ⌜ at + 4 ≤ length (now buf) ⌝ }
-    ensures { λ _. ⌜ now (buf .exit) ≡ take at (now (buf .entry)) ++ bytesOf 4 v ++ drop (at + 4) (now (buf .entry)) ⌝ }
+    ensures { λ _. ⌜ FourPut (now (buf .entry)) at v (now (buf .exit)) ⌝ }
 {
     buf[at] = (v / 256 / 256 / 256 % 256) as u8;
     buf[at + 1] = (v / 256 / 256 % 256) as u8;
@@ -104,20 +104,21 @@ fn put_header(buf: &mut [u8], last: u8)
 }
 
 fn put_parts(buf: &mut [u8], last: u8, mean: &[i64; 31])
-    requires { ⌜ (last ≤ 15) × (recordLength last ≤ length (now buf)) × InLimits (parts last) (now mean) ⌝ }
-    ensures { λ _. ⌜ now (buf .exit) ≡ take 5 (now (buf .entry)) ++ partBytes 0 (parts last) (now (mean .entry)) ++ drop (recordLength last) (now (buf .entry)) ⌝ }
+    requires { ⌜ Writes last (now mean) (now buf) ⌝ }
+    ensures { λ _. ⌜ now (buf .exit) ≡ withParts (now (buf .entry)) (now (mean .entry)) (parts last) ⌝ }
 {
     let n = parts_of(last);
     let mut k = 0usize;
     while k < n {
-        put_four(buf, 5 + 4 * k, four_bytes(mean[k]));
+        let z = mean[k];
+        put_four(buf, 5 + 4 * k, four_bytes(z));
         k += 1;
     }
 }
 
 // The record of a mean, at the front of the buffer; the bytes behind it stay.
 pub fn write_record(buf: &mut [u8], last: u8, mean: &[i64; 31])
-    requires { ⌜ (last ≤ 15) × (recordLength last ≤ length (now buf)) × InLimits (parts last) (now mean) ⌝ }
+    requires { ⌜ Writes last (now mean) (now buf) ⌝ }
     ensures { λ _. ⌜ now (buf .exit) ≡ recordOf last (now (mean .entry)) ++ drop (recordLength last) (now (buf .entry)) ⌝ }
 {
     put_header(buf, last);

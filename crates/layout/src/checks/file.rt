@@ -131,7 +131,7 @@ fn check_9(s: &[u8]) -> Check
     check_unsigned(s, 9, run, 1, 1099511627776)
 }
 
-// The last amounts of year 0.
+// Both blocks end their first row alike.
 fn check_10(s: &[u8]) -> Check
     requires { ⌜ Whole (now s) ⌝ }
     ensures { λ r. ⌜ told r ≡ check10 (now (s .entry)) ⌝ }

@@ -1,5 +1,5 @@
--- `records::parse_parts` meets its contract. The loop's invariant: the parts that are read, all of them inside the limits, and zeros behind them. The measure
--- is how many are left. Assumes nothing.
+-- `records::parse_parts` meets its contract. The loop's invariant: the parts that are read, all of them inside the limits, and zeros behind
+-- them. The measure is how many are left. Assumes nothing.
 use denote.Ref.{now}
 use native.Mathlib.Omega.{arith}
 use Prim.Native.Nat.{ℕ, _-_, _≤_, _<_}
@@ -60,7 +60,8 @@ enum-told c = search needs
 returns : tie.Need-returns Inv-loop μ-loop
 returns c =
     let d = c .before .before .before .before .before .before .before in
-    absurd (omega (arith, d .pre .1, signed-outside (partAt (c .before .before .before .before .loop .k)) (now (d .args .r)) (c .before .before .signed-4 .ensures) (c .enum-told .given .1)))
+    let at = partAt (c .before .before .before .before .loop .k) in
+    absurd (omega (arith, d .pre .1, signed-outside at (now (d .args .r)) (c .before .before .signed-4 .ensures) (c .enum-told .given .1)))
 
 -- the part that is read
 module _ (c : tie.After-known-told Inv-loop μ-loop) where

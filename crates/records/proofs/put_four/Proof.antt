@@ -1,13 +1,9 @@
 -- `records::put_four` meets its contract: four stores in a row. Assumes nothing.
 use denote.Ref.{now}
 use native.Mathlib.Omega.{arith}
-use mathlib.Core.List.{[], _∷_}
-use Prim.Native.Nat.{_/_, _%_}
-use native.Mathlib.Numerals.{add-one, add-two, add-three}
 use lib.ListN.{length-set}
-use lib.Seq.{sets-eq}
-use Rattle.definitions.specs.Layout.{bytesOf}
 use borrow.Author.Needs.{needs}
+use Rattle.records.proofs.RecordSteps.{four-put}
 use Rattle.records.proofs.put_four.Statement.{statement}
 use Rattle.records.proofs.put_four.Tie as tie
 
@@ -48,12 +44,7 @@ same-length : tie.Need-same-length
 same-length c = search needs
 
 returns : tie.Need-returns
-unfolding bytesOf
-returns c =
-    let a = c .args in
-    let v = a .v in
-    rw (add-one (a .at), add-two (a .at), add-three (a .at))
-    (sets-eq (v / 256 / 256 / 256 % 256 ∷ v / 256 / 256 % 256 ∷ v / 256 % 256 ∷ v % 256 ∷ []) (now (a .buf)) (a .at) (c .pre))
+returns c = four-put (now (c .args .buf)) (c .args .v) (c .args .at) (omega arith) (omega arith) (omega arith) (omega arith)
 
 pub put-four-spec : {M : Type 1} → statement M
 put-four-spec =

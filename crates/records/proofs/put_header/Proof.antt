@@ -26,7 +26,8 @@ returns : tie.Need-returns
 returns c =
     let d = c .before .before .before .before .before .before in
     let b = now (d .args .buf) in
-    ap (λ l. set l 4 1) (c .before .before .put-four .ensures ∙ ap (λ n. take 0 b ++ bytesOf 4 n ++ drop (0 + 4) b) (c .before .before .before .record-length .ensures))
+    let long = c .before .before .before .record-length .ensures in
+    ap (λ l. set l 4 1) (c .before .before .put-four .ensures .is ∙ ap (λ n. take 0 b ++ bytesOf 4 n ++ drop (0 + 4) b) long)
     ∙ header-put (recordLength (d .args .last)) b (d .pre)
 
 pub put-header-spec : {M : Type 1} → statement M

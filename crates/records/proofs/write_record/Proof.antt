@@ -2,7 +2,8 @@
 use denote.Ref.{now}
 use mathlib.Core.Path.{ap, _∙_}
 use Rattle.definitions.specs.Layout.{parts}
-use Rattle.records.proofs.RecordSteps.{put, record-put}
+use Rattle.records.specs.Records.{withParts}
+use Rattle.records.proofs.RecordSteps.{record-put}
 use borrow.Author.Needs.{needs}
 use Rattle.records.proofs.write_record.Statement.{statement}
 use Rattle.records.proofs.write_record.Tie as tie
@@ -21,7 +22,7 @@ returns c =
     let d = c .before .before .before .before .before .before .before .before .before in
     let a = d .args in
     c .before .before .put-parts .ensures
-    ∙ ap (λ b. put b (now (a .mean)) (parts (a .last))) (c .before .before .before .before .before .before .put-header .ensures)
+    ∙ ap (λ b. withParts b (now (a .mean)) (parts (a .last))) (c .before .before .before .before .before .before .put-header .ensures)
     ∙ record-put (a .last) (now (a .buf)) (now (a .mean))
 
 pub write-record-spec : {M : Type 1} → statement M

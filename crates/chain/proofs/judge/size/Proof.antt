@@ -37,7 +37,9 @@ cast-result : tie.Need-cast-result
 cast-result c = castable (c .before .args .z) (c .before .fits .z) (negative (c .before .fits .z) (c .if1 .taken))
 
 add-result : tie.Need-add-result
-add-result c = let n = negative (c .before .fits .z) (c .if1 .taken) in omega (arith, n .small, ap natAbs (n .is), size-is (c .before .args .z) (c .before .fits .z) n)
+add-result c =
+    let n = negative (c .before .fits .z) (c .if1 .taken) in
+    omega (arith, n .small, ap natAbs (n .is), size-is (c .before .args .z) (c .before .fits .z) n)
 
 cast-result-2 : tie.Need-cast-result-2
 cast-result-2 c = castable-as-is (c .before .args .z) (c .before .fits .z) (nonnegative (c .before .fits .z) (c .if1 .left))

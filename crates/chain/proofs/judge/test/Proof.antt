@@ -1,4 +1,5 @@
--- The test of residues. Shown: what is left to test from part k on gives the whole judgement, so that the first part that fails is the definitions'. Assumes nothing.
+-- The test of residues. Shown: what is left to test from part k on gives the whole judgement, so that the first part that fails is the
+-- definitions'. Assumes nothing.
 use Prim.Native.Nat.{_-_, _≤_}
 use mathlib.Core.Path.{_≡_, sym, _∙_, ap}
 use native.Mathlib.Nat.{mul-le-mul}
@@ -12,7 +13,8 @@ use Rattle.chain.proofs.judge.test.Statement.{statement}
 use Rattle.chain.proofs.judge.test.Tie as tie
 
 abbrev Inv-loop : tie.InvT-loop
-Inv-loop last closeness own residues parts k₀ k = (k ≤ parts) × (testFrom closeness own residues k (parts - k) ≡ testFrom closeness own residues 0 parts)
+Inv-loop last closeness own residues parts k₀ k =
+    (k ≤ parts) × (testFrom closeness own residues k (parts - k) ≡ testFrom closeness own residues 0 parts)
 
 abbrev μ-loop : tie.MeasureT-loop
 μ-loop last closeness own residues parts k₀ k = parts - k
@@ -53,7 +55,9 @@ loop-less : tie.Need-loop-less Inv-loop μ-loop
 loop-less c = omega arith
 
 -- what `size` gave is the size of residue k
-size-is : (c : tie.After-size Inv-loop μ-loop) → c .size .result ≡ natAbs (part (c .before .before .before .before .args .residues .now) (c .before .before .before .loop .k))
+size-is : (c : tie.After-size Inv-loop μ-loop)
+    → let at = c .before .before .before in
+    c .size .result ≡ natAbs (part (at .before .args .residues .now) (at .loop .k))
 size-is c =
     let at = c .before .before .before in
     c .size .ensures ∙ ap natAbs (same (part (at .before .args .residues .now) (at .loop .k)) (c .before .size-arg .given))
@@ -61,18 +65,20 @@ size-is c =
 loop-again : tie.Need-loop-again Inv-loop μ-loop
 loop-again c =
     let at = c .before .before .before .before .before in
-    let s = at .before in (
+    let a = at .before .args in
+    let size = size-is (c .before .before) in (
       omega arith,
-      sym (test-next (s .args .closeness) (s .args .own .now) (s .args .residues .now) (at .loop .k) (parts (s .args .last)) (omega arith) (size-is (c .before .before)) (omega (arith, c .if1 .taken)))
+      sym (test-next (a .closeness) (a .own .now) (a .residues .now) (at .loop .k) (parts (a .last)) (omega arith) size (omega (arith, c .if1 .taken)))
           ∙ at .loop .inv .1,
     )
 
 returns : tie.Need-returns Inv-loop μ-loop
 returns c =
     let at = c .before .before .before .before .before in
-    let s = at .before in
+    let a = at .before .args in
+    let size = size-is (c .before .before) in
     record {
-      is = sym (test-fails (s .args .closeness) (s .args .own .now) (s .args .residues .now) (at .loop .k) (parts (s .args .last)) (omega arith) (size-is (c .before .before)) (omega (arith, c .if1 .left)))
+      is = sym (test-fails (a .closeness) (a .own .now) (a .residues .now) (at .loop .k) (parts (a .last)) (omega arith) size (omega (arith, c .if1 .left)))
           ∙ at .loop .inv .1;
     }
 

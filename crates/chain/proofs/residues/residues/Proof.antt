@@ -15,11 +15,10 @@ use Rattle.integers.specs.Sum.{sum, sum-next}
 use Rattle.integers.specs.Total.{sizes, total-next}
 use Rattle.definitions.specs.Words.{part}
 use Rattle.definitions.specs.Layout.{parts}
-use Rattle.definitions.specs.Refusals.{partLimit}
-use Rattle.chain.specs.Arrays.{meanOf, cell, cell-at, cell-mirrored}
+use Rattle.chain.specs.Arrays.{meanOf, cell, cell-at, cell-mirrored, rowProduct}
 use Rattle.chain.specs.Bits.{stored, read}
 use Rattle.chain.specs.Decides.{decided-yes, decided-no, not-yes, not-no}
-use Rattle.chain.specs.Fitting.{Inside, rowLimit, rightHandLimit}
+use Rattle.chain.specs.Fitting.{Inside, rowLimit, residueLimit}
 use Rattle.chain.specs.Residues.{OfMean, RowFits, RowsFit}
 use Rattle.chain.specs.Sizes.{row-fits, sum-fits, difference-fits, mean-at, residue-at}
 use Rattle.chain.specs.Turned.{Turned, turned-none, turned-next, turned-as, zeros-at, here-or-before}
@@ -28,7 +27,7 @@ use Rattle.chain.proofs.residues.residues.Tie as tie
 
 -- the residue of part i by its first n products
 abbrev soFar : List ℤ → List ℤ → List ℤ → ℕ → ℕ → ℤ
-soFar A b μ n i = sum n (λ l. cell A i l *ℤ part μ l) -ℤ part b i
+soFar A b μ n i = rowProduct A i n μ -ℤ part b i
 
 -- the first n rows fit
 module _ {last : ℕ} {A b μ : List ℤ} (h : OfMean last A b μ) (n : ℕ) (few : n ≤ parts last) (rows : RowsFit A n) where
@@ -38,57 +37,77 @@ module _ {last : ℕ} {A b μ : List ℤ} (h : OfMean last A b μ) (n : ℕ) (fe
   row-small : (i : ℕ) → i < n → sizes n (cell A i) ≤ rowLimit
   row-small i below = row-fits A n rows (omega (arith, h .years)) i below (h .diagonal i (omega arith))
 
-  products-small : (i : ℕ) → i < n → natAbs (sum n (λ l. cell A i l *ℤ part μ l)) < 2 ^ 63
+  products-small : (i : ℕ) → i < n → natAbs (rowProduct A i n μ) < 2 ^ 63
   products-small i below = omega (arith, sum-fits A μ i n (row-small i below) inside)
 
-  so-far-small : (i : ℕ) → i < n → natAbs (soFar A b μ n i) ≤ rowLimit * partLimit + rightHandLimit
+  so-far-small : (i : ℕ) → i < n → natAbs (soFar A b μ n i) ≤ residueLimit
   so-far-small i below = difference-fits A μ i n (row-small i below) inside (part b i) (h .right-hand i (omega arith))
 
 -- row k fits besides, and z is its sum up to the diagonal
-module _ {last : ℕ} {A b μ : List ℤ} (h : OfMean last A b μ) (k : ℕ) (below : k < parts last) (rows : RowsFit A (k + 1)) (z : ℤ)
-    (sums : z ≡ sum k (λ l. cell A k l *ℤ part μ l)) where
-  sum-read : stored z ≡ sum k (λ l. cell A k l *ℤ part μ l)
-  sum-read = ap stored sums ∙ read (sum k (λ l. cell A k l *ℤ part μ l)) (omega (arith, sum-fits A μ k k up-to-diagonal (inside h k (omega arith) (λ i i-below. rows i (omega arith)))))
+record Reached (last : ℕ) (A b μ : List ℤ) (k : ℕ) (z : ℤ) : Type 0 where
+  asked : OfMean last A b μ
+  below : k < parts last
+  rows : RowsFit A (k + 1)
+  sums : z ≡ rowProduct A k k μ
+
+module _ {last : ℕ} {A b μ : List ℤ} {k : ℕ} {z : ℤ} (h : Reached last A b μ k z) where
+  sum-read : stored z ≡ rowProduct A k k μ
+  sum-read = ap stored (h .sums) ∙ read (rowProduct A k k μ) (omega (arith, sum-fits A μ k k up-to-diagonal inside-before))
     where
       up-to-diagonal : sizes k (cell A k) ≤ rowLimit
-      up-to-diagonal = omega (arith, total-next k (λ l. natAbs (cell A k l)), row-small h (k + 1) (omega arith) rows k (omega arith))
+      up-to-diagonal =
+          omega (arith, total-next k (λ l. natAbs (cell A k l)), row-small (h .asked) (k + 1) (omega (arith, h .below)) (h .rows) k (omega arith))
+
+      inside-before : Inside k μ
+      inside-before = inside (h .asked) k (omega (arith, h .below)) (λ i i-below. h .rows i (omega arith))
 
   product : stored (part A (31 * k + k)) *ℤ stored (part μ k) ≡ cell A k k *ℤ part μ k
   product =
-      ap₂ _*ℤ_ (ap stored (sym (cell-at A k k (le-refl k))) ∙ read (cell A k k) (omega (arith, h .diagonal k below)))
-      (read (part μ k) (omega (arith, h .inside .small k below)))
+      ap₂ _*ℤ_ (ap stored (sym (cell-at A k k (le-refl k))) ∙ read (cell A k k) (omega (arith, h .asked .diagonal k (h .below))))
+      (read (part μ k) (omega (arith, h .asked .inside .small k (h .below))))
 
   product-small : natAbs (cell A k k *ℤ part μ k) < 2 ^ 63
-  product-small = omega (arith, natAbs-*-≤ (cell A k k) (part μ k) (h .diagonal k below) (h .inside .small k below))
+  product-small =
+      omega (arith, natAbs-*-≤ (cell A k k) (part μ k) (h .asked .diagonal k (h .below)) (h .asked .inside .small k (h .below)))
 
-  total : stored z +ℤ stored (stored (part A (31 * k + k)) *ℤ stored (part μ k)) ≡ sum (k + 1) (λ l. cell A k l *ℤ part μ l)
+  -- the row's sum as the code adds it up, and with the right-hand side taken off
+  abbrev added : ℤ
+  added = stored z +ℤ stored (stored (part A (31 * k + k)) *ℤ stored (part μ k))
+
+  abbrev taken-off : ℤ
+  taken-off = stored added -ℤ stored (part b k)
+
+  total : added ≡ rowProduct A k (k + 1) μ
   total = ap₂ _+ℤ_ sum-read (kept w64 product product-small) ∙ sym (sum-next k (λ l. cell A k l *ℤ part μ l))
 
-  total-small : natAbs (sum (k + 1) (λ l. cell A k l *ℤ part μ l)) < 2 ^ 63
-  total-small = products-small h (k + 1) (omega arith) rows k (omega arith)
+  total-small : natAbs (rowProduct A k (k + 1) μ) < 2 ^ 63
+  total-small = products-small (h .asked) (k + 1) (omega (arith, h .below)) (h .rows) k (omega arith)
 
-  difference : stored (stored z +ℤ stored (stored (part A (31 * k + k)) *ℤ stored (part μ k))) -ℤ stored (part b k) ≡ soFar A b μ (k + 1) k
-  difference = ap₂ _-ℤ_ (kept w64 total total-small) (read (part b k) (omega (arith, h .right-hand k below)))
+  difference : taken-off ≡ soFar A b μ (k + 1) k
+  difference = ap₂ _-ℤ_ (kept w64 total total-small) (read (part b k) (omega (arith, h .asked .right-hand k (h .below))))
 
   difference-small : natAbs (soFar A b μ (k + 1) k) < 2 ^ 63
-  difference-small = omega (arith, so-far-small h (k + 1) (omega arith) rows k (omega arith))
+  difference-small = omega (arith, so-far-small (h .asked) (k + 1) (omega (arith, h .below)) (h .rows) k (omega arith))
 
   -- the residues of the parts before k, with the mirrored products of row k
-  module _ {v w : List ℤ} (so-far : Turned k (soFar A b μ k) (λ i. pos 0) v) (mirrored : Turned k (λ i. part v i +ℤ cell A k i *ℤ part μ k) (part v) w) where
+  module _ {v w : List ℤ} (so-far : Turned k (soFar A b μ k) (λ i. pos 0) v)
+      (mirrored : Turned k (λ i. part v i +ℤ cell A k i *ℤ part μ k) (part v) w) where
     with-mirrored : (i : ℕ) → part v i ≡ soFar A b μ k i → part v i +ℤ cell A k i *ℤ part μ k ≡ soFar A b μ (k + 1) i
     with-mirrored i is =
-        let before : ℤ = sum k (λ l. cell A i l *ℤ part μ l) in
+        let before : ℤ = rowProduct A i k μ in
         let more : ℤ = cell A i k *ℤ part μ k in
         ap₂ (λ r a. r +ℤ a *ℤ part μ k) is (cell-mirrored A k i)
         ∙ ring (before ∷ part b i ∷ more ∷ []) (λ s b m. (s ⊟ b) ⊞ m ≐ (s ⊞ m) ⊟ b) tt
         ∙ ap (λ s. s -ℤ part b i) (sym (sum-next k (λ l. cell A i l *ℤ part μ l)))
 
-    next : Turned (k + 1) (soFar A b μ (k + 1)) (λ i. pos 0) (set w k (stored (stored (stored z +ℤ stored (stored (part A (31 * k + k)) *ℤ stored (part μ k))) -ℤ stored (part b k))))
+    next : Turned (k + 1) (soFar A b μ (k + 1)) (λ i. pos 0) (set w k (stored taken-off))
     next =
-        turned-next (turned-as mirrored (λ i i-below. with-mirrored i (so-far .front i i-below)) (so-far .rest)) (omega (arith, h .years)) (kept w64 difference difference-small)
+        turned-next (turned-as mirrored (λ i i-below. with-mirrored i (so-far .front i i-below)) (so-far .rest))
+        (omega (arith, h .below, h .asked .years)) (kept w64 difference difference-small)
 
 abbrev Inv-loop : tie.InvT-loop
-Inv-loop last matrix right-hand mean parts found₀ k₀ found k = (k ≤ parts) × RowsFit matrix k × Turned k (soFar matrix right-hand mean k) (λ i. pos 0) found
+Inv-loop last matrix right-hand mean parts found₀ k₀ found k =
+    (k ≤ parts) × RowsFit matrix k × Turned k (soFar matrix right-hand mean k) (λ i. pos 0) found
 
 abbrev μ-loop : tie.MeasureT-loop
 μ-loop last matrix right-hand mean parts found₀ k₀ found k = parts - k
@@ -107,18 +126,20 @@ row-times-requires c κs =
     let at = c .before .before .loop in
     let s = c .before .before .before in
     let below = c .before .loop-test .taken in
+    let small-so-far = so-far-small (s .pre) (at .k) (at .inv .0) (at .inv .1) in
     record {
       few = omega (arith, s .pre .years);
       inside = record { small = λ i i-below. s .pre .inside .small i (omega arith) };
       long = at .inv .2 .long;
-      small = λ i i-below. subst (λ r. natAbs r ≤ rowLimit * partLimit + rightHandLimit) (sym (at .inv .2 .front i i-below)) (so-far-small (s .pre) (at .k) (at .inv .0) (at .inv .1) i i-below);
+      small = λ i i-below. subst (λ r. natAbs r ≤ residueLimit) (sym (at .inv .2 .front i i-below)) (small-so-far i i-below);
     }
 
 returns : tie.Need-returns Inv-loop μ-loop
 returns c =
     let l = c .before .before .before .before in
+    let row = c .before .before .row-times .ensures .fits in
     record {
-      fit = decided-no (λ all. c .before .before .row-times .ensures .fits .when-no (not-yes (c .if1 .taken)) (all (l .before .loop .k) (l .loop-test .taken)));
+      fit = decided-no (λ all. row .when-no (not-yes (c .if1 .taken)) (all (l .before .loop .k) (l .loop-test .taken)));
       are = λ e. absurd (false≢true e);
     }
 
@@ -136,11 +157,17 @@ module _ (c : tie.Else1 Inv-loop μ-loop) where
   in-array : at .loop .k < 31
   in-array = omega (arith, below, s .pre .years)
 
-  rows : RowsFit (now (s .args .matrix)) (at .loop .k + 1)
-  rows = here-or-before (RowFits (now (s .args .matrix))) (at .loop .k) (c .before .before .row-times .ensures .fits .when-yes (not-no (c .if1 .left))) (at .loop .inv .1)
-
-  sums : c .before .before .row-times .result .sum ≡ sum (at .loop .k) (λ l. cell (now (s .args .matrix)) (at .loop .k) l *ℤ part (now (s .args .mean)) l)
-  sums = c .before .before .row-times .ensures .is (not-no (c .if1 .left))
+  reached : Reached (s .args .last) (now (s .args .matrix)) (now (s .args .right-hand)) (now (s .args .mean))
+      (at .loop .k) (c .before .before .row-times .result .sum)
+  reached =
+      let row = c .before .before .row-times .ensures in
+      let fits-too = row .fits .when-yes (not-no (c .if1 .left)) in
+      record {
+        asked = s .pre;
+        below = below;
+        rows = here-or-before (RowFits (now (s .args .matrix))) (at .loop .k) fits-too (at .loop .inv .1);
+        sums = row .is (not-no (c .if1 .left));
+      }
 
 mul-found : tie.Need-mul-found Inv-loop μ-loop
 mul-found c = omega (arith, in-array c)
@@ -161,10 +188,10 @@ element-copy-out-found-2 : tie.Need-element-copy-out-found-2 Inv-loop μ-loop
 element-copy-out-found-2 c = in-array (c .before)
 
 mul-found-4 : tie.Need-mul-found-4 Inv-loop μ-loop
-mul-found-4 c = let e = c .before .before in fits (product (s e .pre) (at e .loop .k) (below e) (rows e) _ (sums e)) (product-small (s e .pre) (at e .loop .k) (below e) (rows e) _ (sums e))
+mul-found-4 c = let h = reached (c .before .before) in fits (product h) (product-small h)
 
 add-found-2 : tie.Need-add-found-2 Inv-loop μ-loop
-add-found-2 c = let e = c .before .before .before .before in fits (total (s e .pre) (at e .loop .k) (below e) (rows e) _ (sums e)) (total-small (s e .pre) (at e .loop .k) (below e) (rows e) _ (sums e))
+add-found-2 c = let h = reached (c .before .before .before .before) in fits (total h) (total-small h)
 
 mul-found-5 : tie.Need-mul-found-5 Inv-loop μ-loop
 mul-found-5 c = omega (arith, in-array (c .before .before .before .before))
@@ -173,7 +200,7 @@ element-copy-out-found-3 : tie.Need-element-copy-out-found-3 Inv-loop μ-loop
 element-copy-out-found-3 c = in-array (c .before .before .before .before)
 
 sub-found : tie.Need-sub-found Inv-loop μ-loop
-sub-found c = let e = c .before .before .before .before .before in fits (difference (s e .pre) (at e .loop .k) (below e) (rows e) _ (sums e)) (difference-small (s e .pre) (at e .loop .k) (below e) (rows e) _ (sums e))
+sub-found c = let h = reached (c .before .before .before .before .before) in fits (difference h) (difference-small h)
 
 mul-found-6 : tie.Need-mul-found-6 Inv-loop μ-loop
 mul-found-6 c = omega (arith, in-array (c .before .before .before .before .before))
@@ -189,23 +216,27 @@ loop-less c = omega (arith, below (c .before .before .before .before .before))
 
 loop-again : tie.Need-loop-again Inv-loop μ-loop
 loop-again c =
-    let e = c .before .before .before .before .before in (
+    let e = c .before .before .before .before .before in
+    let h = reached e in (
       omega (arith, below e),
-      rows e,
-      next (s e .pre) (at e .loop .k) (below e) (rows e) _ (sums e) (at e .loop .inv .2) (e .before .before .row-times .ensures .mirrored (not-no (e .if1 .left))),
+      h .rows,
+      next h (at e .loop .inv .2) (e .before .before .row-times .ensures .mirrored (not-no (e .if1 .left))),
     )
 
 returns-2 : tie.Need-returns-2 Inv-loop μ-loop
 returns-2 c =
     let at = c .before .loop in
     let s = c .before .before in
+    let A = now (s .args .matrix) in
+    let b = now (s .args .right-hand) in
+    let μ = now (s .args .mean) in
     let all : at .k ≡ parts (s .args .last) = omega (arith, at .inv .0, c .loop-test .left) in
     record {
       fit = decided-yes (λ k below. at .inv .1 k (omega arith));
       are = λ _. record {
         at = λ k below. at .inv .2 .front k (omega arith)
-            ∙ ap₂ (λ n y. sum n (λ l. cell (now (s .args .matrix)) k l *ℤ part (now (s .args .mean)) l) -ℤ y) all (sym (mean-at (s .args .last) (now (s .args .right-hand)) k below))
-            ∙ sym (residue-at (s .args .last) (now (s .args .matrix)) (meanOf (s .args .last) (now (s .args .right-hand))) (now (s .args .mean)) k below);
+            ∙ ap₂ (λ n y. rowProduct A k n μ -ℤ y) all (sym (mean-at (s .args .last) b k below))
+            ∙ sym (residue-at (s .args .last) A (meanOf (s .args .last) b) μ k below);
       };
     }
 

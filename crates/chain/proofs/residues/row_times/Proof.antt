@@ -1,5 +1,5 @@
--- Row k up to its diagonal. Shown: the entries so far are in the bounds, the sum is that of their products, and the residues of the parts so far have the
--- mirrored products added. None of them wraps, since the entries and the mean are in the bounds. Assumes nothing.
+-- Row k up to its diagonal. Shown: the entries so far are in the bounds, the sum is that of their products, and the residues of the parts
+-- so far have the mirrored products added. None of them wraps, since the entries and the mean are in the bounds. Assumes nothing.
 use Prim.Native.Nat.{ℕ, _+_, _*_, _-_, _^_, _≤_, _<_}
 use mathlib.Core.Path.{_≡_, refl, sym, _∙_, ap, ap₂, subst}
 use mathlib.Core.Bool.{false≢true}
@@ -16,7 +16,7 @@ use Rattle.integers.specs.Sum.{sum, sum-zero, sum-next}
 use Rattle.integers.specs.Total.{sum-size, total-bound}
 use Rattle.definitions.specs.Words.{part}
 use Rattle.definitions.specs.Refusals.{partLimit}
-use Rattle.chain.specs.Arrays.{cell, cell-at}
+use Rattle.chain.specs.Arrays.{cell, cell-at, rowProduct}
 use Rattle.chain.specs.Bits.{stored, read, same}
 use Rattle.chain.specs.Decides.{Decides, decided-yes, decided-no, not-yes, not-no}
 use Rattle.chain.specs.Fitting.{entryLimit}
@@ -46,19 +46,17 @@ module _ {A μ v : List ℤ} {k l : ℕ} (h : Reached A μ v k l) where
   product-small j j-below = omega (arith, product-size l j (omega arith) j-below)
 
   -- added to the sum of the row
-  module _ (t : ℕ) (e : toZ w64 t ≡ sum l (λ i. cell A k i *ℤ part μ i)) where
-    summed : toZ w64 t +ℤ stored (stored (part A (31 * k + l)) *ℤ stored (part μ l)) ≡ sum (l + 1) (λ i. cell A k i *ℤ part μ i)
+  module _ (t : ℕ) (e : toZ w64 t ≡ rowProduct A k l μ) where
+    summed : toZ w64 t +ℤ stored (stored (part A (31 * k + l)) *ℤ stored (part μ l)) ≡ rowProduct A k (l + 1) μ
     summed =
         ap₂ _+ℤ_ e (kept w64 (product l (omega (arith, h .below))) (product-small l (omega (arith, h .below))))
         ∙ sym (sum-next l (λ i. cell A k i *ℤ part μ i))
 
-    summed-small : natAbs (sum (l + 1) (λ i. cell A k i *ℤ part μ i)) < 2 ^ 63
-    summed-small = omega (
-      arith,
-      sum-size (l + 1) (λ i. cell A k i *ℤ part μ i),
-      total-bound (l + 1) (entryLimit * partLimit) {f = λ i. natAbs (cell A k i *ℤ part μ i)} (λ i below. product-size i i below (omega (arith, h .below))),
-      mul-le-mul-right (entryLimit * partLimit) few,
-    )
+    summed-small : natAbs (rowProduct A k (l + 1) μ) < 2 ^ 63
+    summed-small =
+        let bound = total-bound (l + 1) (entryLimit * partLimit) {f = λ i. natAbs (cell A k i *ℤ part μ i)} in
+        let products = bound (λ i below. product-size i i below (omega (arith, h .below))) in
+        omega (arith, sum-size (l + 1) (λ i. cell A k i *ℤ part μ i), products, mul-le-mul-right (entryLimit * partLimit) few)
       where
         few : l + 1 ≤ 31
         few = omega (arith, h .below, h .asked .few)
@@ -71,13 +69,15 @@ module _ {A μ v : List ℤ} {k l : ℕ} (h : Reached A μ v k l) where
         (kept w64 (product k (omega arith)) (product-small k (omega arith)))
 
     mirrored-small : natAbs (part v l +ℤ cell A k l *ℤ part μ k) < 2 ^ 63
-    mirrored-small = omega (arith, natAbs-+ (part v l) (cell A k l *ℤ part μ k), h .asked .small l (h .below), product-size l k (omega arith) (omega arith))
+    mirrored-small =
+        let added = product-size l k (omega arith) (omega arith) in
+        omega (arith, natAbs-+ (part v l) (cell A k l *ℤ part μ k), h .asked .small l (h .below), added)
 
 abbrev Inv-loop : tie.InvT-loop
 Inv-loop matrix mean residues₀ k row own sum₀ l₀ residues total l =
     (l ≤ k)
     × ((i : ℕ) → i < l → natAbs (cell matrix k i) ≤ entryLimit)
-    × (toZ w64 total ≡ sum l (λ i. cell matrix k i *ℤ part mean i))
+    × (toZ w64 total ≡ rowProduct matrix k l mean)
     × Turned l (λ i. part residues₀ i +ℤ cell matrix k i *ℤ part mean k) (part residues₀) residues
 
 abbrev μ-loop : tie.MeasureT-loop
@@ -112,8 +112,10 @@ entry-fits-requires : tie.Need-entry-fits-requires Inv-loop μ-loop
 entry-fits-requires c κs = search needs
 
 -- whether the entry is in the bounds
-decided : (c : tie.After-entry-fits Inv-loop μ-loop) → let at = c .before .before .before in
-    Decides (natAbs (cell (now (at .before .before .args .matrix)) (at .before .before .args .k) (at .loop .l)) ≤ entryLimit) (c .entry-fits .result)
+decided : (c : tie.After-entry-fits Inv-loop μ-loop)
+    → let at = c .before .before .before in
+    let s = at .before .before in
+    Decides (natAbs (cell (now (s .args .matrix)) (s .args .k) (at .loop .l)) ≤ entryLimit) (c .entry-fits .result)
 decided c =
     let at = c .before .before .before in
     let s = at .before .before in
@@ -125,8 +127,9 @@ decided c =
 returns : tie.Need-returns Inv-loop μ-loop
 returns c =
     let l = c .before .before .before in
+    let too-large = decided (c .before) .when-no (not-yes (c .if1 .taken)) in
     record {
-      fits = decided-no (λ entries. decided (c .before) .when-no (not-yes (c .if1 .taken)) (entries (l .before .loop .l) (l .loop-test .taken)));
+      fits = decided-no (λ entries. too-large (entries (l .before .loop .l) (l .loop-test .taken)));
       is = λ e. absurd (false≢true e);
       mirrored = λ e. absurd (false≢true e);
     }
@@ -140,11 +143,14 @@ module _ (c : tie.Else1 Inv-loop μ-loop) where
   s = at .before .before
 
   reached : Reached (now (s .args .matrix)) (now (s .args .mean)) (now (s .args .residues)) (s .args .k) (at .loop .l)
-  reached = record {
-    asked = s .pre;
-    below = c .before .before .before .loop-test .taken;
-    entries = here-or-before (λ i. natAbs (cell (now (s .args .matrix)) (s .args .k) i) ≤ entryLimit) (at .loop .l) (decided (c .before) .when-yes (not-no (c .if1 .left))) (at .loop .inv .1);
-  }
+  reached =
+      let InBounds : ℕ → Type 0 = λ i. natAbs (cell (now (s .args .matrix)) (s .args .k) i) ≤ entryLimit in
+      let here = decided (c .before) .when-yes (not-no (c .if1 .left)) in
+      record {
+        asked = s .pre;
+        below = c .before .before .before .loop-test .taken;
+        entries = here-or-before InBounds (at .loop .l) here (at .loop .inv .1);
+      }
 
   in-array : at .loop .l < 31
   in-array = omega (arith, s .pre .few, c .before .before .before .loop-test .taken)
@@ -156,7 +162,10 @@ element-copy-out-sum : tie.Need-element-copy-out-sum Inv-loop μ-loop
 element-copy-out-sum c = in-array c
 
 mul-sum-2 : tie.Need-mul-sum-2 Inv-loop μ-loop
-mul-sum-2 c = let h = reached (c .before) in fits (product h (at (c .before) .loop .l) (omega (arith, h .below))) (product-small h (at (c .before) .loop .l) (omega (arith, h .below)))
+mul-sum-2 c =
+    let h = reached (c .before) in
+    let l = at (c .before) .loop .l in
+    fits (product h l (omega (arith, h .below))) (product-small h l (omega (arith, h .below)))
 
 add-sum : tie.Need-add-sum Inv-loop μ-loop
 add-sum c =
@@ -182,7 +191,10 @@ module _ (c : tie.After-residues Inv-loop μ-loop) where
   old = at e .loop .inv .3 .rest (at e .loop .l) (le-refl (at e .loop .l))
 
 mul-residues-2 : tie.Need-mul-residues-2 Inv-loop μ-loop
-mul-residues-2 c = let h = reached (c .before .before) in fits (product h (s (c .before .before) .args .k) (omega arith)) (product-small h (s (c .before .before) .args .k) (omega arith))
+mul-residues-2 c =
+    let h = reached (c .before .before) in
+    let k = s (c .before .before) .args .k in
+    fits (product h k (omega arith)) (product-small h k (omega arith))
 
 add-residues : tie.Need-add-residues Inv-loop μ-loop
 add-residues c = let h = reached (e c) in fits (mirrored h (x c) (old c)) (mirrored-small h (x c) (old c))
@@ -213,11 +225,15 @@ returns-2 : tie.Need-returns-2 Inv-loop μ-loop
 returns-2 c =
     let at = c .before .loop in
     let s = c .before .before .before in
-    let all : at .l ≡ s .args .k = omega (arith, at .inv .0, c .loop-test .left) in
+    let k = s .args .k in
+    let A = now (s .args .matrix) in
+    let μ = now (s .args .mean) in
+    let v = now (s .args .residues) in
+    let all : at .l ≡ k = omega (arith, at .inv .0, c .loop-test .left) in
     record {
       fits = decided-yes (λ i below. at .inv .1 i (omega arith));
-      is = λ _. at .inv .2 ∙ ap (λ n. sum n (λ i. cell (now (s .args .matrix)) (s .args .k) i *ℤ part (now (s .args .mean)) i)) all;
-      mirrored = λ _. subst (λ n. Turned n (λ i. part (now (s .args .residues)) i +ℤ cell (now (s .args .matrix)) (s .args .k) i *ℤ part (now (s .args .mean)) (s .args .k)) (part (now (s .args .residues))) (at .residues)) all (at .inv .3);
+      is = λ _. at .inv .2 ∙ ap (λ n. rowProduct A k n μ) all;
+      mirrored = λ _. subst (λ n. Turned n (λ i. part v i +ℤ cell A k i *ℤ part μ k) (part v) (at .residues)) all (at .inv .3);
     }
 
 pub row-times-spec : {M : Type 1} → statement M

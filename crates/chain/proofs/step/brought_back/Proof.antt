@@ -1,4 +1,4 @@
--- A part is brought back to the nearest limit. Shown: the code's tests are those of `bringBack`. Assumes nothing.
+-- A part that has passed a limit is set to it. Shown: the code's tests are those of `bringBack`. Assumes nothing.
 use mathlib.Core.Path.{sym, ap, _∙_}
 use borrow.Author.Needs.{needs}
 use lib.IntN.{pos, negsuc}

@@ -105,8 +105,12 @@ loop-holds : tie.Need-loop-holds Inv-loop μ-loop Inv-loop2 μ-loop2
 loop-holds c = (omega arith, turned-none (c .before .pre .long) (λ i. refl))
 
 -- up to the diagonal
-before-diagonal : (c : tie.In-loop Inv-loop μ-loop Inv-loop2 μ-loop2) → let s = c .before .before .before in (c .before .loop .l < parts (s .args .last)) × (s .args .k < 31)
-before-diagonal c = let s = c .before .before .before in (omega (arith, c .loop-test .taken, s .pre .below), omega (arith, s .pre .below, s .pre .years))
+before-diagonal : (c : tie.In-loop Inv-loop μ-loop Inv-loop2 μ-loop2)
+    → let s = c .before .before .before in
+    (c .before .loop .l < parts (s .args .last)) × (s .args .k < 31)
+before-diagonal c =
+    let s = c .before .before .before in
+    (omega (arith, c .loop-test .taken, s .pre .below), omega (arith, s .pre .below, s .pre .years))
 
 in-array : (c : tie.In-loop Inv-loop μ-loop Inv-loop2 μ-loop2) → c .before .loop .l < 31
 in-array c = omega (arith, c .loop-test .taken, before-diagonal c .1)
@@ -140,8 +144,8 @@ module _ (c : tie.After-residues2 Inv-loop μ-loop Inv-loop2 μ-loop2) where
   abbrev s : tie.Start Inv-loop μ-loop Inv-loop2 μ-loop2
   s = at .before .before
 
-  mirrored : Residue (s .args .last) (now (s .args .matrix)) (now (s .args .residues)) (s .args .k) (s .args .change) (at .loop .l) (part (at .loop .residues) (at .loop .l))
-      (part (now (s .args .matrix)) (31 * s .args .k + at .loop .l))
+  mirrored : Residue (s .args .last) (now (s .args .matrix)) (now (s .args .residues)) (s .args .k) (s .args .change) (at .loop .l)
+      (part (at .loop .residues) (at .loop .l)) (part (now (s .args .matrix)) (31 * s .args .k + at .loop .l))
   mirrored = record {
     asked = s .pre;
     change-fits = s .fits .change;
@@ -241,8 +245,8 @@ module _ (c : tie.After-residues4 Inv-loop μ-loop Inv-loop2 μ-loop2) where
   abbrev s-2 : tie.Start Inv-loop μ-loop Inv-loop2 μ-loop2
   s-2 = at-2 .before .before .before .before
 
-  as-is : Residue (s-2 .args .last) (now (s-2 .args .matrix)) (now (s-2 .args .residues)) (s-2 .args .k) (s-2 .args .change) (at-2 .loop2 .l) (part (at-2 .loop2 .residues) (at-2 .loop2 .l))
-      (part (now (s-2 .args .matrix)) (31 * at-2 .loop2 .l + s-2 .args .k))
+  as-is : Residue (s-2 .args .last) (now (s-2 .args .matrix)) (now (s-2 .args .residues)) (s-2 .args .k) (s-2 .args .change) (at-2 .loop2 .l)
+      (part (at-2 .loop2 .residues) (at-2 .loop2 .l)) (part (now (s-2 .args .matrix)) (31 * at-2 .loop2 .l + s-2 .args .k))
   as-is = record {
     asked = s-2 .pre;
     change-fits = s-2 .fits .change;
@@ -282,8 +286,12 @@ returns-2 : tie.Need-returns-2 Inv-loop μ-loop Inv-loop2 μ-loop2
 returns-2 c =
     let at = c .before .loop2 in
     let s = c .before .before .before .before .before in
+    let v = now (s .args .residues) in
+    let A = now (s .args .matrix) in
     record {
-      at = λ l below. at .inv .2 .front l (omega (arith, c .loop2-test .left)) ∙ both-done (c .before .before) l ∙ ap (λ d. part (now (s .args .residues)) l +ℤ cell (now (s .args .matrix)) l (s .args .k) *ℤ d) (toZ-ofZ (s .fits .change));
+      at = λ l below. at .inv .2 .front l (omega (arith, c .loop2-test .left))
+          ∙ both-done (c .before .before) l
+          ∙ ap (λ d. part v l +ℤ cell A l (s .args .k) *ℤ d) (toZ-ofZ (s .fits .change));
       behind = λ l from. at .inv .2 .rest l (omega (arith, at .inv .1)) ∙ first-done (c .before .before) .rest l (omega (arith, s .pre .below));
     }
 

@@ -1,5 +1,5 @@
--- One step. Shown: each number that the code computes is the definitions', since none wraps; the part is set to the definitions' part, and the residues that
--- follow speak of the same right-hand side as before. Assumes nothing.
+-- One step. Shown: each number that the code computes is the definitions', since none wraps; the part is set to the definitions' part, and
+-- the residues that follow speak of the same right-hand side as before. Assumes nothing.
 use Prim.Native.Nat.{ℕ, _+_, _*_, _/_, _^_, _≤_, _<_}
 use mathlib.Core.Path.{_≡_, sym, ap, ap₂, _∙_, subst}
 use mathlib.Core.List.{List}
@@ -20,7 +20,7 @@ use Rattle.definitions.specs.Sweep.{bringBack}
 use Rattle.chain.specs.declared.arrays.Working.{Working}
 use Rattle.chain.specs.Arrays.{cell, cell-at}
 use Rattle.chain.specs.Bits.{stored, read}
-use Rattle.chain.specs.Held.{moved, stepped}
+use Rattle.chain.specs.Held.{moved, stepped, dividend}
 use Rattle.chain.specs.Step.{Steps}
 use Rattle.chain.specs.StepSizes.{index-below, parts-below, diagonal-small, diagonal-positive, residue-small, half-small, dividend-small, quotient-small, moved-small, fresh-small, change-small, follows, done}
 use Rattle.chain.proofs.step.step.Statement.{statement}
@@ -36,22 +36,32 @@ module _ {last : ℕ} {A : List ℤ} {w : Working} {k : ℕ} (h : Steps last A w
   positive : pos (natAbs (cell A k k)) ≡ cell A k k
   positive = let one = diagonal-positive h in nonneg-pos (simp linear (omega (arith, simp linear at one)))
 
-  half : quotZ (stored (part A (31 * k + k))) (pos 2) ≡ pos (natAbs (cell A k k) / 2)
+  -- the diagonal entry, half of it and the dividend, as the code has them
+  abbrev diagonal-read : ℤ
+  diagonal-read = stored (part A (31 * k + k))
+
+  abbrev half-read : ℤ
+  half-read = quotZ diagonal-read (pos 2)
+
+  abbrev dividend-read : ℤ
+  dividend-read = stored half-read -ℤ stored (part (w .residues) k)
+
+  half : half-read ≡ pos (natAbs (cell A k k) / 2)
   half = ap (λ a. quotZ a (pos 2)) (diagonal ∙ sym positive)
 
   half-fits : natAbs (cell A k k) / 2 < 2 ^ 63
   half-fits = omega (arith, half-small h)
 
-  dividend : stored (quotZ (stored (part A (31 * k + k))) (pos 2)) -ℤ stored (part (w .residues) k) ≡ pos (natAbs (cell A k k) / 2) -ℤ part (w .residues) k
-  dividend = ap₂ _-ℤ_ (kept w64 half half-fits) (read (part (w .residues) k) (omega (arith, residue-small h)))
+  dividend-is : dividend-read ≡ dividend A w k
+  dividend-is = ap₂ _-ℤ_ (kept w64 half half-fits) (read (part (w .residues) k) (omega (arith, residue-small h)))
 
-  divisor-positive : pos 0 <ℤ stored (part A (31 * k + k))
+  divisor-positive : pos 0 <ℤ diagonal-read
   divisor-positive = let one = diagonal-positive h in subst (λ d. pos 0 <ℤ d) (sym diagonal) (simp linear (omega (arith, simp linear at one)))
 
   -- q is what `floor` gives, and z what `brought_back` gives
-  module _ (q : ℤ) (q-is : q ≡ floorDiv (stored (stored (quotZ (stored (part A (31 * k + k))) (pos 2)) -ℤ stored (part (w .residues) k))) (natAbs (stored (part A (31 * k + k))))) where
+  module _ (q : ℤ) (q-is : q ≡ floorDiv (stored dividend-read) (natAbs diagonal-read)) where
     quotient : q ≡ moved A w k
-    quotient = q-is ∙ ap₂ (λ x d. floorDiv x (natAbs d)) (kept w64 dividend (omega (arith, dividend-small h))) diagonal
+    quotient = q-is ∙ ap₂ (λ x d. floorDiv x (natAbs d)) (kept w64 dividend-is (omega (arith, dividend-small h))) diagonal
 
     sum : stored (part (w .mean) k) +ℤ stored q ≡ part (w .mean) k +ℤ moved A w k
     sum = ap₂ _+ℤ_ old (kept w64 quotient (omega (arith, quotient-small h)))
@@ -70,7 +80,9 @@ module _ {last : ℕ} {A : List ℤ} {w : Working} {k : ℕ} (h : Steps last A w
       change-kept = kept w64 change (omega (arith, change-small h))
 
 -- the mean's array has 31 numbers
-mean-long : (c : tie.After-brought-back) → parts (c .before .before .before .before .before .args .last) ≤ length (c .before .before .before .before .before .args .working .mean)
+mean-long : (c : tie.After-brought-back)
+    → let a = c .before .before .before .before .before .args in
+    parts (a .last) ≤ length (a .working .mean)
 mean-long c =
     let s = c .before .before .before .before .before in
     let long : length (s .args .working .mean) ≡ 31 = search needs in
@@ -104,7 +116,7 @@ element-copy-out-floor : tie.Need-element-copy-out-floor
 element-copy-out-floor c = omega (arith, index-below (c .before .before .pre))
 
 sub-floor : tie.Need-sub-floor
-sub-floor c = let h = c .before .before .before .pre in fits (dividend h) (omega (arith, dividend-small h))
+sub-floor c = let h = c .before .before .before .pre in fits (dividend-is h) (omega (arith, dividend-small h))
 
 floor-requires : tie.Need-floor-requires
 floor-requires c κs = divisor-positive (c .before .before .before .pre)
@@ -125,13 +137,15 @@ sub-follow : tie.Need-sub-follow
 sub-follow c =
     let b = c .before in
     let h = b .before .before .before .before .before .pre in
-    fits (change h (b .before .floor .result) (b .before .floor .ensures) (b .brought-back .result) (b .brought-back .ensures)) (omega (arith, change-small h))
+    let changed = change h (b .before .floor .result) (b .before .floor .ensures) (b .brought-back .result) (b .brought-back .ensures) in
+    fits changed (omega (arith, change-small h))
 
 follow-requires : tie.Need-follow-requires
 follow-requires c κs =
     let b = c .before in
-    let s = b .before .before .before .before .before in
-    follows (s .pre) (mean-long b) (search needs) (change-kept (s .pre) (b .before .floor .result) (b .before .floor .ensures) (b .brought-back .result) (b .brought-back .ensures))
+    let h = b .before .before .before .before .before .pre in
+    let changed = change-kept h (b .before .floor .result) (b .before .floor .ensures) (b .brought-back .result) (b .brought-back .ensures) in
+    follows h (mean-long b) (search needs) changed
 
 returns : tie.Need-returns
 returns c =

@@ -44,7 +44,9 @@ sub-left : tie.Need-sub-left Inv-loop μ-loop
 sub-left c = omega arith
 
 passes-requires-2 : tie.Need-passes-requires-2 Inv-loop μ-loop
-passes-requires-2 c κs = let s = c .before .before .before .before .before .before .before .before .before .before in own-fits (F s) (s .pre .fitting)
+passes-requires-2 c κs =
+    let s = c .before .before .before .before .before .before .before .before .before .before in
+    own-fits (F s) (s .pre .fitting)
 
 loop-less : tie.Need-loop-less Inv-loop μ-loop
 loop-less c = omega arith
@@ -53,8 +55,9 @@ loop-again : tie.Need-loop-again Inv-loop μ-loop
 loop-again c =
     let swept = c .before .before .before in
     let going = swept .before in
-    run-next (going .before .before .before .loop .inv) (going .before .before .loop-test .taken) (going .before .if1 .left) (going .if2 .left) (swept .one-sweep .ensures)
-    (c .passes2 .ensures)
+    let at = going .before .before in
+    run-next (at .before .loop .inv) (at .loop-test .taken) (going .before .if1 .left) (going .if2 .left)
+    (swept .one-sweep .ensures) (c .passes2 .ensures)
 
 returns-3 : tie.Need-returns-3 Inv-loop μ-loop
 returns-3 c = run-out (c .before .loop .inv) (c .loop-test .left)

@@ -66,11 +66,13 @@ returns c =
 
 was-read : (c : tie.After-known-told Inv-loop μ-loop)
     → let l = c .before .before .before .before in
-    c .before .z .given .0 .0 ≡ signed (place (l .before .before .before .args .run .first) (l .before .before .before .args .run .stride) (l .before .loop .k)) (now (l .before .before .before .args .s))
+    let a = l .before .before .before .args in
+    c .before .z .given .0 .0 ≡ signed (place (a .run .first) (a .run .stride) (l .before .loop .k)) (now (a .s))
 was-read c =
     let l = c .before .before .before .before in
     let a = l .before .before .before .args in
-    signed-read (place (a .run .first) (a .run .stride) (l .before .loop .k)) (now (a .s)) (c .before .before .before .signed-4 .ensures) (c .before .z .given .1)
+    let at = place (a .run .first) (a .run .stride) (l .before .loop .k) in
+    signed-read at (now (a .s)) (c .before .before .before .signed-4 .ensures) (c .before .z .given .1)
 
 held : (c : tie.After-known-told Inv-loop μ-loop) → toZ w64 (ofZ w64 (c .before .z .given .0 .0)) ≡ c .before .z .given .0 .0
 held c = toZ-ofZ (record { sfits = c .known-told .given .0 .1 })
@@ -98,7 +100,8 @@ loop-less c = omega arith
 loop-again : tie.Need-loop-again Inv-loop μ-loop
 loop-again c =
     let l = c .before .before .before .before .before .before in
-    left-next (l .before .loop .inv) (l .loop-test .taken) (part-yes (held (c .before .before)) (was-read (c .before .before)) (c .before .if1 .left) (c .if2 .left))
+    let read = c .before .before in
+    left-next (l .before .loop .inv) (l .loop-test .taken) (part-yes (held read) (was-read read) (c .before .if1 .left) (c .if2 .left))
 
 returns-4 : tie.Need-returns-4 Inv-loop μ-loop
 unfolding signedRun

@@ -62,11 +62,13 @@ returns c =
 
 was-read : (c : tie.After-known-told Inv-loop μ-loop)
     → let l = c .before .before .before .before in
-    c .before .v .given .0 .0 ≡ unsigned 8 (place (l .before .before .before .args .run .first) (l .before .before .before .args .run .stride) (l .before .loop .k)) (now (l .before .before .before .args .s))
+    let a = l .before .before .before .args in
+    c .before .v .given .0 .0 ≡ unsigned 8 (place (a .run .first) (a .run .stride) (l .before .loop .k)) (now (a .s))
 was-read c =
     let l = c .before .before .before .before in
     let a = l .before .before .before .args in
-    field-read 8 (place (a .run .first) (a .run .stride) (l .before .loop .k)) (now (a .s)) (c .before .before .before .unsigned-8 .ensures) (c .before .v .given .1)
+    let at = place (a .run .first) (a .run .stride) (l .before .loop .k) in
+    field-read 8 at (now (a .s)) (c .before .before .before .unsigned-8 .ensures) (c .before .v .given .1)
 
 returns-2 : tie.Need-returns-2 Inv-loop μ-loop
 unfolding unsignedRun

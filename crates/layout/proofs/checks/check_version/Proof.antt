@@ -5,7 +5,7 @@ use native.Mathlib.Omega.{arith}
 use mathlib.Core.Path.{sym, _∙_}
 use Rattle.definitions.specs.Layout.{version}
 use Rattle.definitions.specs.Refusals.{check2}
-use Rattle.fields.specs.Fields.{field-read, field-outside}
+use Rattle.fields.specs.Fields.{byte-read, byte-outside}
 use Rattle.layout.specs.CheckLaws.{unless-holds, unless-fails}
 use borrow.Author.Needs.{needs}
 use Rattle.layout.proofs.checks.check_version.Statement.{statement}
@@ -23,20 +23,20 @@ enum-told c = search needs
 returns : tie.Need-returns
 returns c =
     let s = now (c .before .before .before .before .args .s) in
-    absurd (omega (arith, field-outside 1 4 s (c .before .before .unsigned-1 .ensures) (c .enum-told .given .1)))
+    absurd (omega (arith, byte-outside 4 s (c .before .before .unsigned-1 .ensures) (c .enum-told .given .1)))
 
 returns-2 : tie.Need-returns-2
 unfolding check2
 returns-2 c =
     let s = now (c .before .before .before .before .before .before .args .s) in
-    let e = field-read 1 4 s (c .before .before .before .before .unsigned-1 .ensures) (c .before .before .version .given .1) in
+    let e = byte-read 4 s (c .before .before .before .before .unsigned-1 .ensures) (c .before .before .version .given .1) in
     unless-fails 2 4 (ne-eqb (version s) 1 (λ h. c .if1 .taken (e ∙ h)))
 
 returns-3 : tie.Need-returns-3
 unfolding check2
 returns-3 c =
     let s = now (c .before .before .before .before .before .before .args .s) in
-    let e = field-read 1 4 s (c .before .before .before .before .unsigned-1 .ensures) (c .before .before .version .given .1) in
+    let e = byte-read 4 s (c .before .before .before .before .unsigned-1 .ensures) (c .before .before .version .given .1) in
     unless-holds 2 4 (eq-eqb (version s) 1 (sym e ∙ c .if1 .left))
 
 pub check-version-spec : {M : Type 1} → statement M

@@ -24,8 +24,18 @@ start c = c .row-start .ensures ∙ ap (λ n. rowStart n (c .before .before .bef
 before-block : (channel n : ℕ) → channel ≤ 1 → channel * n ≤ n
 before-block channel n few = le-trans (mul-le-mul-right n few) (omega arith)
 
-inside : (c : tie.After-row-start) → let d = c .before .before .before .before in
-    amountAt (J (c .before)) (d .args .channel * c .before .cells-of .result + c .row-start .result) + 8 * (c .before .before .last-year .result + 1 - d .args .year) ≤ length (now (d .args .s))
+-- the row's first cell, and how many it has, as the code finds them
+module _ (c : tie.After-row-start) where
+  abbrev a : tie.Start
+  a = c .before .before .before .before
+
+  abbrev cell-found : ℕ
+  cell-found = a .args .channel * c .before .cells-of .result + c .row-start .result
+
+  abbrev cells-found : ℕ
+  cells-found = c .before .before .last-year .result + 1 - a .args .year
+
+inside : (c : tie.After-row-start) → amountAt (J (c .before)) (cell-found c) + 8 * cells-found c ≤ length (now (a c .args .s))
 inside c =
     let d = c .before .before .before .before in
     omega (
@@ -46,7 +56,10 @@ cells-of-requires : tie.Need-cells-of-requires
 cells-of-requires c κs = search needs
 
 mul-cells : tie.Need-mul-cells
-mul-cells c = let d = c .before .before .before in omega (arith, block c, before-block (d .args .channel) (c .cells-of .result) (d .pre .channel), amounts-end (J c), d .pre .file .whole)
+mul-cells c =
+    let d = c .before .before .before in
+    let one-block = before-block (d .args .channel) (c .cells-of .result) (d .pre .channel) in
+    omega (arith, block c, one-block, amounts-end (J c), d .pre .file .whole)
 
 row-start-requires : tie.Need-row-start-requires
 row-start-requires c κs = search needs
@@ -80,8 +93,8 @@ returns c =
     let r = c .before in
     let k = r .before in
     let d = k .before .before .before in
-    let cell : d .args .channel * k .cells-of .result + r .row-start .result ≡ d .args .channel * cells (J k) + rowStart (J k) (d .args .year)
-    = ap₂ (λ n m. d .args .channel * n + m) (block k) (start r) in
+    let first-cell = d .args .channel * cells (J k) + rowStart (J k) (d .args .year) in
+    let cell : cell-found r ≡ first-cell = ap₂ (λ n m. d .args .channel * n + m) (block k) (start r) in
     record {
       start = omega (arith, cell, c .amounts-at .ensures, k .before .last-year .ensures);
       length = ap (λ n. rowLength n (d .args .year)) (k .before .last-year .ensures);

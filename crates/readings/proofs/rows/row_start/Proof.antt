@@ -24,7 +24,9 @@ sub-cells : tie.Need-sub-cells Inv-loop μ-loop
 sub-cells c = omega arith
 
 add-cells : tie.Need-add-cells Inv-loop μ-loop
-add-cells c = let a = c .before .before .args in omega (arith, row-inside (a .last) (c .before .loop .i) (omega arith), cells-few (a .last) (c .before .before .pre .0))
+add-cells c =
+    let last = c .before .before .args .last in
+    omega (arith, row-inside last (c .before .loop .i) (omega arith), cells-few last (c .before .before .pre .0))
 
 add-i : tie.Need-add-i Inv-loop μ-loop
 add-i c = omega arith

@@ -26,7 +26,8 @@ blocks : (c : tie.After-cells-of)
 blocks c = omega (arith, block c, amounts-end (J c), c .before .before .before .before .pre .file .whole)
 
 inside : (c : tie.After-row-start)
-    → c .row-start .result + (c .before .before .before .last-year .result + 1 - c .before .before .before .before .before .args .year) ≤ c .before .cells-of .result
+    → let year = c .before .before .before .before .before .args .year in
+    c .row-start .result + (c .before .before .before .last-year .result + 1 - year) ≤ c .before .cells-of .result
 inside c =
     let d = c .before .before .before .before .before in
     omega (arith, block (c .before), start c, row-inside (J (c .before)) (d .args .year) (d .pre .year))
@@ -88,7 +89,8 @@ part-part-end-2 c = search needs
 part-requires : tie.Need-part-requires
 part-requires c κs =
     let d = c .before .before in
-    (omega arith, simp (length-take, length-drop) (omega (arith, blocks (d .before), inside d)), simp (length-take, length-drop) (omega (arith, blocks (d .before), inside d)))
+    let two = blocks (d .before) in
+    (omega arith, simp (length-take, length-drop) (omega (arith, two, inside d)), simp (length-take, length-drop) (omega (arith, two, inside d)))
 
 returns : tie.Need-returns
 returns c =

@@ -2,7 +2,7 @@
 -- Assumes nothing.
 use denote.Ref.{now}
 use mathlib.Core.Path.{_≡_, sym, ap, _∙_}
-use Prim.Native.Nat.{_+_, _*_, _≤_}
+use Prim.Native.Nat.{_+_, _*_, _≤_, ℕ}
 use native.Mathlib.Omega.{arith}
 use borrow.Author.Tests.{eq-eqb, ne-eqb}
 use lib.ListN.{length}
@@ -23,38 +23,48 @@ paid-inside s w = amount-inside s w _ (omega (arith, row-inside (lastYear s) 0 (
 incurred-inside : (s : Bytes) → Whole s → incurredAt (lastYear s) 0 (lastYear s) + 8 ≤ length s
 incurred-inside s w = amount-inside s w _ (omega (arith, row-inside (lastYear s) 0 (omega arith)))
 
-paid-place : (c : tie.After-cells-of)
-    → let J = lastYear (now (c .before .before .before .before .args .s)) in
-    c .before .amounts-at .result + 8 * c .before .before .last-year .result ≡ paidAt J 0 J
-paid-place c = omega (arith, row-start-zero (lastYear (now (c .before .before .before .before .args .s))))
+-- the places of both as the code finds them
+module _ (c : tie.After-cells-of) where
+  abbrev file : Bytes
+  file = now (c .before .before .before .before .args .s)
 
-incurred-place : (c : tie.After-cells-of)
-    → let J = lastYear (now (c .before .before .before .before .args .s)) in
-    c .before .amounts-at .result + 8 * c .before .before .last-year .result + 8 * c .cells-of .result ≡ incurredAt J 0 J
+  abbrev paid-found : ℕ
+  paid-found = c .before .amounts-at .result + 8 * c .before .before .last-year .result
+
+  abbrev incurred-found : ℕ
+  incurred-found = paid-found + 8 * c .cells-of .result
+
+  abbrev is-whole : Whole file
+  is-whole = c .before .before .before .before .pre
+
+paid-place : (c : tie.After-cells-of) → let J = lastYear (file c) in paid-found c ≡ paidAt J 0 J
+paid-place c = omega (arith, row-start-zero (lastYear (file c)))
+
+incurred-place : (c : tie.After-cells-of) → let J = lastYear (file c) in incurred-found c ≡ incurredAt J 0 J
 incurred-place c =
-    let J = lastYear (now (c .before .before .before .before .args .s)) in
+    let J = lastYear (file c) in
     let all : c .cells-of .result ≡ cells J = c .cells-of .ensures ∙ ap cells (c .before .before .last-year .ensures) in
     omega (arith, row-start-zero J)
 
+abbrev placed : tie.After-known-told2 → tie.After-cells-of
+placed c = c .before .before .before .before .before .before .before .before
+
 paid-read : (c : tie.After-known-told2)
-    → let s = now (c .before .before .before .before .before .before .before .before .before .before .before .before .args .s) in
+    → let s = file (placed c) in
     c .before .before .before .before .before .paid .given .0 .0 ≡ paid s 0 (lastYear s)
 paid-read c =
-    let d = c .before .before .before .before .before .before .before .before in
-    let s = now (d .before .before .before .before .args .s) in
-    field-read 8 (d .before .amounts-at .result + 8 * d .before .before .last-year .result) s (c .before .before .before .before .before .before .before .unsigned-8 .ensures)
-    (c .before .before .before .before .before .paid .given .1)
-    ∙ ap (λ at. unsigned 8 at s) (paid-place d)
+    let d = placed c in
+    let read = c .before .before .before .before .before in
+    field-read 8 (paid-found d) (file d) (read .before .before .unsigned-8 .ensures) (read .paid .given .1)
+    ∙ ap (λ at. unsigned 8 at (file d)) (paid-place d)
 
 incurred-read : (c : tie.After-known-told2)
-    → let s = now (c .before .before .before .before .before .before .before .before .before .before .before .before .args .s) in
+    → let s = file (placed c) in
     c .before .incurred .given .0 .0 ≡ incurred s 0 (lastYear s)
 incurred-read c =
-    let d = c .before .before .before .before .before .before .before .before in
-    let s = now (d .before .before .before .before .args .s) in
-    field-read 8 (d .before .amounts-at .result + 8 * d .before .before .last-year .result + 8 * d .cells-of .result) s (c .before .before .before .unsigned-82 .ensures)
-    (c .before .incurred .given .1)
-    ∙ ap (λ at. unsigned 8 at s) (incurred-place d)
+    let d = placed c in
+    field-read 8 (incurred-found d) (file d) (c .before .before .before .unsigned-82 .ensures) (c .before .incurred .given .1)
+    ∙ ap (λ at. unsigned 8 at (file d)) (incurred-place d)
 
 last-year-requires : tie.Need-last-year-requires
 last-year-requires c κs = search needs
@@ -75,10 +85,10 @@ cells-of-requires : tie.Need-cells-of-requires
 cells-of-requires c κs = search needs
 
 mul-incurred-at : tie.Need-mul-incurred-at
-mul-incurred-at c = let s = now (c .before .before .before .before .args .s) in omega (arith, incurred-place c, incurred-inside s (c .before .before .before .before .pre))
+mul-incurred-at c = omega (arith, incurred-place c, incurred-inside (file c) (is-whole c))
 
 add-incurred-at : tie.Need-add-incurred-at
-add-incurred-at c = let s = now (c .before .before .before .before .args .s) in omega (arith, incurred-place c, incurred-inside s (c .before .before .before .before .pre))
+add-incurred-at c = omega (arith, incurred-place c, incurred-inside (file c) (is-whole c))
 
 unsigned-8-requires : tie.Need-unsigned-8-requires
 unsigned-8-requires c κs = search needs
@@ -92,14 +102,8 @@ enum-told c = search needs
 returns : tie.Need-returns
 returns c =
     let d = c .before .before .before in
-    let s = now (d .before .before .before .before .args .s) in
-    absurd
-    (omega (
-      arith,
-      paid-place d,
-      paid-inside s (d .before .before .before .before .pre),
-      field-outside 8 (d .before .amounts-at .result + 8 * d .before .before .last-year .result) s (c .before .before .unsigned-8 .ensures) (c .enum-told .given .1),
-    ))
+    let outside = field-outside 8 (paid-found d) (file d) (c .before .before .unsigned-8 .ensures) (c .enum-told .given .1) in
+    absurd (omega (arith, paid-place d, paid-inside (file d) (is-whole d), outside))
 
 unsigned-8-requires-2 : tie.Need-unsigned-8-requires-2
 unsigned-8-requires-2 c κs = search needs
@@ -113,21 +117,14 @@ enum-told-2 c = search needs
 returns-2 : tie.Need-returns-2
 returns-2 c =
     let d = c .before .before .before .before .before .before .before in
-    let s = now (d .before .before .before .before .args .s) in
-    absurd
-    (omega (
-      arith,
-      incurred-place d,
-      incurred-inside s (d .before .before .before .before .pre),
-      field-outside 8 (d .before .amounts-at .result + 8 * d .before .before .last-year .result + 8 * d .cells-of .result) s (c .before .before .unsigned-82 .ensures)
-          (c .enum-told2 .given .1),
-    ))
+    let outside = field-outside 8 (incurred-found d) (file d) (c .before .before .unsigned-82 .ensures) (c .enum-told2 .given .1) in
+    absurd (omega (arith, incurred-place d, incurred-inside (file d) (is-whole d), outside))
 
 returns-3 : tie.Need-returns-3
 unfolding check10
 returns-3 c =
-    let d = c .before .before .before .before .before .before .before .before .before in
-    let s = now (d .before .before .before .before .args .s) in
+    let d = placed (c .before) in
+    let s = file d in
     let J = lastYear s in
     ap (refuses 10) (paid-place d)
     ∙ unless-fails 10 (paidAt J 0 J)
@@ -136,8 +133,8 @@ returns-3 c =
 returns-4 : tie.Need-returns-4
 unfolding check10
 returns-4 c =
-    let d = c .before .before .before .before .before .before .before .before .before in
-    let s = now (d .before .before .before .before .args .s) in
+    let d = placed (c .before) in
+    let s = file d in
     let J = lastYear s in
     unless-holds 10 (paidAt J 0 J) (eq-eqb (paid s 0 J) (incurred s 0 J) (sym (paid-read (c .before)) ∙ c .if1 .left ∙ incurred-read (c .before)))
 
