@@ -4,10 +4,6 @@ use mathlib.Core.Bool.{cond}
 use lib.Dec.{leb}
 use lib.Count.{leadingZeros}
 
--- document 01's T
-abbrev pub ticksPerDoubling : ℕ
-ticksPerDoubling = 1048576
-
 -- h, the place of the highest one bit of a 64-bit amount
 unfoldable pub highestBit : ℕ → ℕ
 highestBit a = 63 - leadingZeros 64 a
