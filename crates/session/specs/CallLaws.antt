@@ -13,7 +13,6 @@ use Rattle.definitions.specs.Layout.{Bytes, lastYear, parts, priorMean, recordL
 use Rattle.definitions.specs.Refusals.{Check, clear, refuses, recordCheck}
 use Rattle.definitions.specs.Matrix as D
 use Rattle.definitions.specs.Matrix.{Judgement, passed, fails, judgement, isPassed, passes}
-use Rattle.definitions.specs.Sweep as S
 use Rattle.definitions.specs.Sweep.{sweeps, sweepLimit}
 use Rattle.definitions.specs.Machine as M
 use Rattle.definitions.specs.Machine.{Answer, judged, settled, going, written, State, holds, Outcome, openCheck, refusedOr, accepted, openCall, judgeCall, sweepCall, sweptTo, readCall}

@@ -8,7 +8,7 @@ use Rattle.definitions.specs.Words.{part}
 use Rattle.definitions.specs.Layout.{Bytes, parts, lastYear}
 use Rattle.definitions.specs.Refusals.{partLimit}
 use Rattle.definitions.specs.Matrix as D
-use Rattle.definitions.specs.Machine.{State, empty, holds, Call}
+use Rattle.definitions.specs.Machine.{empty, holds, Call}
 use Rattle.laws.specs.Accepted.{accepted-file}
 use Rattle.laws.specs.Judged.{tab-at}
 use Rattle.laws.specs.MachineLaws.{Good, after, reached-good}
@@ -16,18 +16,7 @@ use Rattle.chain.specs.Arrays.{figuresOf, meanOf}
 use Rattle.chain.specs.Fitting.{Fitting}
 use Rattle.chain.specs.AcceptedFits.{accepted-fits}
 use Rattle.session.specs.declared.Session.{Session}
-use Rattle.session.specs.State.{Fits, decFits, stateOf, stateOf-empty}
-
--- a session that stands for an open file passes the test
-pub open-fits : (s : Session) (F : D.Figures) (μ : List ℤ) (total : ℕ) → stateOf s ≡ holds F μ total → Fits s
-open-fits s F μ total e = by-case (decFits s)
-  where
-    clash : _≡_ {A = State D.Figures} empty (holds F μ total) → ⊥
-    clash same = let z : _≡_ {A = ℕ} 0 1 = cc in omega arith
-
-    by-case : Dec (Fits s) → Fits s
-    by-case (yes h) = h
-    by-case (no n) = absurd (clash (sym (stateOf-empty s n) ∙ e))
+use Rattle.session.specs.State.{Fits}
 
 -- what a session keeps of a file, a mean and a total
 pub record Keeps (s : Session) (f : Bytes) (μ : List ℤ) (total : ℕ) : Type 0 where

@@ -37,14 +37,6 @@ pub record Fits (s : Session) : Type 0 where
   pub inside : Inside (parts (s .figures .last)) (s .mean)
   pub few : s .total ≤ sweepLimit
 
-pub years-of : {s : Session} → Fits s → s .figures .last ≤ yearLimit
-unfolding figuresOf
-years-of h = h .fitting .years
-
-pub close-of : {s : Session} → Fits s → s .figures .closeness ≤ closenessLimit
-unfolding figuresOf
-close-of h = h .fitting .close
-
 -- ---- whether a session fits can be told
 
 -- of every number below n
