@@ -28,7 +28,7 @@
 --   sum and order          sum-mono, sum-nonneg, sum-term, sum-positive                                                SumOrder
 --   sum of naturals        total-zero, total-suc, total-next, total-cong, total-+, total-scale-right,
 --                          total-mono, total-bound, total-split, total-grows, total-term, pos-total                    Total
---   sum of sizes           sizes, sum-size, sum-size-below; else the laws of total                                     Total
+--   sum of sizes           sizes, sum-size; else the laws of total                                                     Total
 --
 -- Names. A law is named by its left side read in order, as in the kit: `*ℤ-+ℤ` is about x · (y + z), `negℤ-*ℤ` about (−x) · y; so of
 -- a sum or a size, `sum-+` is about the sum of f k + g k and `natAbs-*` about |a · b|. `-is-` states a ↔, whose halves are `.0` and

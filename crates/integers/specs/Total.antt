@@ -94,7 +94,3 @@ pub sum-size : (n : ℕ) (f : ℕ → ℤ) → natAbs (sum n f) ≤ sizes n f
 unfolding sum total
 sum-size zero f = zero-le
 sum-size (suc n) f = le-trans (natAbs-+ (sum n f) (f n)) (omega (arith, sum-size n f))
-
--- every shorter sum is as small
-pub sum-size-below : {m n : ℕ} (f : ℕ → ℤ) → m ≤ n → natAbs (sum m f) ≤ sizes n f
-sum-size-below {m} f l = le-trans (sum-size m f) (total-grows (λ k. natAbs (f k)) l)

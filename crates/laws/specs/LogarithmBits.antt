@@ -5,7 +5,7 @@ use mathlib.Core.Bool.{Bool, true, false, cond}
 use native.Mathlib.Nat.{two-pow-succ, mul-le-mul-right}
 use native.Mathlib.Omega.{arith}
 use lib.Dec.{leb}
-use Rattle.definitions.specs.Logarithm.{ticksPerDoubling, highestBit, startFrom, nextBit, nextY, bitsOf, squarings, logarithm}
+use Rattle.definitions.specs.Logarithm.{highestBit, startFrom, nextBit, nextY, bitsOf, squarings, logarithm}
 
 -- h, and behind it the bits of k squarings
 abbrev pub logIn : ℕ → ℕ → ℕ

@@ -8,7 +8,7 @@ use native.Mathlib.Omega.{arith}
 use lib.IntN.{ℤ, pos, negℤ, natAbs, _-ℤ_, _*ℤ_}
 use Rattle.integers.specs.Size.{natAbs-*, natAbs-neg}
 use Rattle.integers.specs.Solver.{ring, _⊟_, _⊠_, ⊖_, num, _≐_}
-use Rattle.integers.specs.Sum.{sum, total, sum-cong, sum-scale, sum--}
+use Rattle.integers.specs.Sum.{sum, sum-cong, sum-scale, sum--}
 use Rattle.integers.specs.Total.{total-mono, total-scale-right, sizes, sum-size}
 use Rattle.definitions.specs.Layout.{parts}
 use Rattle.definitions.specs.Loss.{Vector}

@@ -1,5 +1,5 @@
 -- A row that is shown stands inside its file and is never empty: so an empty part is shown exactly where the row is refused.
-use Prim.Native.Nat.{ℕ, _+_, _*_, _-_, _≤_, min}
+use Prim.Native.Nat.{ℕ, _+_, _*_, _-_, _≤_}
 use mathlib.Core.Path.{_≡_, refl, sym, ap, _∙_}
 use mathlib.Core.Logic.{_↔_, _≢_}
 use mathlib.Core.List.{[]}
@@ -7,7 +7,7 @@ use native.Mathlib.Nat.{mul-le-mul-right}
 use native.Mathlib.Omega.{arith}
 use lib.Dec.{leb, leb→le}
 use lib.ListN.{length, drop, length-take, length-drop}
-use Rattle.definitions.specs.Layout.{Bytes, lastYear, cells, rowStart, amountAt, fileLength, rowAt, rowLength, rowBytes}
+use Rattle.definitions.specs.Layout.{Bytes, lastYear, cells, amountAt, fileLength, rowAt, rowLength, rowBytes}
 use Rattle.definitions.specs.Refusals.{Check, clear, refuses, unless, fileCheck, rowCheck}
 use Rattle.definitions.specs.Machine.{isClear, partUnless, rowPart}
 use Rattle.laws.specs.Accepted.{then-clear, unless-clear, AcceptedFile, file-clear, rowStart-is, cell-below}

@@ -33,10 +33,6 @@ pub weight-of-two-least : weight (2 ^ 19) ≡ 2 ^ 27
 unfolding weight
 weight-of-two-least = refl
 
-pub weight-of-greatest : weight (2 ^ 46) ≡ 1
-unfolding weight
-weight-of-greatest = refl
-
 pub weight-at-most : (v : ℕ) → 2 ^ 18 ≤ v → weight v ≤ 2 ^ 28
 weight-at-most v h = omega (arith, weight-falls (2 ^ 18) v (omega arith) h, weight-of-least)
 
