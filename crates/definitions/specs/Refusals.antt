@@ -6,7 +6,9 @@ use lib.ListN.{length}
 use lib.IntN.{ℤ, natAbs}
 use lib.Dec.{leb, eqb}
 use Rattle.definitions.specs.Words.{within}
-use Rattle.definitions.specs.Layout.{Bytes, lengthWord, version, lastYear, closeness, parts, varianceAt, priorMeanAt, priorVarianceAt, amountAt, paidAt, fileLength, varianceOf, priorMean, priorVariance, amount, paid, incurred, cells, recordLength, partAt, signed}
+use Rattle.definitions.specs.Layout.{Bytes, lengthWord, version, lastYear, closeness, parts, varianceAt, priorMeanAt, priorVarianceAt}
+use Rattle.definitions.specs.Layout.{amountAt, paidAt, fileLength, varianceOf, priorMean, priorVariance, amount, paid, incurred}
+use Rattle.definitions.specs.Layout.{cells, recordLength, partAt, signed}
 
 pub data Check : Type 0 where
   clear : Check

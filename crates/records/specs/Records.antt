@@ -12,7 +12,8 @@ use lib.ListN.{length, take, drop, getD, replicate, length-append}
 use lib.Seq.{take-at, drop-at, drop-append-add, ext-getD}
 use Rattle.integers.specs.Linear.{linear}
 use Rattle.definitions.specs.Words.{tabFrom, part}
-use Rattle.definitions.specs.Layout.{Bytes, bigEndian, unsigned, twosComplement, signed, lengthWord, version, parts, partAt, recordLength, meanOf, bytesOf, fourBytes, partBytes, recordOf}
+use Rattle.definitions.specs.Layout.{Bytes, bigEndian, unsigned, twosComplement, signed, lengthWord, version, parts, partAt, recordLength}
+use Rattle.definitions.specs.Layout.{meanOf, bytesOf, fourBytes, partBytes, recordOf}
 use Rattle.definitions.specs.Refusals.{partLimit, goodPart, clear, recordCheck}
 use Rattle.layout.specs.CheckLaws.{fields-clear}
 

@@ -22,7 +22,8 @@ use Rattle.chain.specs.Arrays.{cell, cell-at}
 use Rattle.chain.specs.Bits.{stored, read}
 use Rattle.chain.specs.Held.{moved, stepped, dividend}
 use Rattle.chain.specs.Step.{Steps}
-use Rattle.chain.specs.StepSizes.{index-below, parts-below, diagonal-small, diagonal-positive, residue-small, half-small, dividend-small, quotient-small, moved-small, fresh-small, change-small, follows, done}
+use Rattle.chain.specs.StepSizes.{index-below, parts-below, diagonal-small, diagonal-positive, residue-small, half-small, dividend-small, quotient-small}
+use Rattle.chain.specs.StepSizes.{moved-small, fresh-small, change-small, follows, done}
 use Rattle.chain.proofs.step.step.Statement.{statement}
 use Rattle.chain.proofs.step.step.Tie as tie
 

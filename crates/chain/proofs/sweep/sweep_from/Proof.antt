@@ -24,8 +24,10 @@ use prog.Wp.{Heap, Out, Env, Calls, Loops, Wp, WpFn, Tables, afterSeq, afterBloc
 use ghost.Atoms.{Atoms}
 use contract.Monad.{Fun, fact}
 use contract.Running.{givenOf, tables, tablesOf}
-use types.Kit.{Goal, Step, nth, put, Given, Item, ‵, raw, given, _⊛_, ⋆, some, later, Sq, runs, anyQ, atRet, _$_, _∵_, !, qed, by, move, keep, drop, use1, use3, rewrite, split, join, pick, learn, fsplit, fjoin, feqL, suffices, frame, await, done}
-use types.Run.{look, init, store, forget, stop, from, load, lit, addr, bin, of-opd, and-then, no-more, assigns, assigns-last, land, first, blocks, stays, leaves-loop, exec, Below, again, loops, returns, enter, alloc1, alloc0, params1, pass1, pass0, free1, free0}
+use types.Kit.{Goal, Step, nth, put, Given, Item, ‵, raw, given, _⊛_, ⋆, some, later, Sq, runs, anyQ, atRet, _$_, _∵_, !, qed, by, move, keep, drop, use1, use3}
+use types.Kit.{rewrite, split, join, pick, learn, fsplit, fjoin, feqL, suffices, frame, await, done}
+use types.Run.{look, init, store, forget, stop, from, load, lit, addr, bin, of-opd, and-then, no-more, assigns, assigns-last, land, first, blocks, stays}
+use types.Run.{leaves-loop, exec, Below, again, loops, returns, enter, alloc1, alloc0, params1, pass1, pass0, free1, free0}
 use types.SemTy.{Body}
 use types.Tokens.{lft-new, lft-end}
 use sound.WpLaws.{fmOf, WpFn-mono}
