@@ -5,15 +5,15 @@
 --   Layout         the file and the mean record: fields, places, lengths
 --   Refusals       the checks 1 to 11, 14 and 15, in number order, with their places
 --   Observations   weights p, q, s, t, g and observations x, z, y of a file
---   Loss           the loss of u/m times m²; distance
+--   Loss           the loss of u/m times m²
 --   Matrix         own weight, precision matrix, right-hand side, residue; passed or the first failing part
 --   Sweep          one step, one sweep, the sweeps of a call
 --   Machine        the session machine: each call's answer, and state and buffer afterwards
---   Guarantee      what a passed mean is worth (demand 3)
+--   Guarantee      demand 3: what a passed mean is worth, and which means must pass
 --   JointTable     the starred figures, as one theorem
 -- The words that the definitions are written in: ℕ and its operations, in which a difference stops at 0 and n / 0 is 0; lists
 -- (`lib.ListN`); ℤ (`lib.IntN`); tests (`leb`, `ltb`, `eqb` of `lib.Dec`); `sum n f`, which is f 0 + … + f (n − 1) over ℤ, and
--- `total n f`, the same over ℕ (both of the crate `integers`); and the three of `Words`.
+-- `total n f`, the same over ℕ (both of `integers`, `Summation`); and the three of `Words`.
 pub mod Words
 pub mod Logarithm
 pub mod Weight
