@@ -1,13 +1,26 @@
--- What C is told, case by case and in plain numbers, as include/desk.h has it.
+-- What C is told, case by case and in plain numbers, as include/desk.h has it; and its contracts at the limits of demand 3.
 use Prim.Native.Nat.{ℕ}
 use mathlib.Core.Path.{_≡_, refl}
-use Rattle.definitions.specs.Layout.{rowStart}
-use Rattle.definitions.specs.Refusals.{clear, refuses}
+use mathlib.Core.Logic.{_≢_}
+use mathlib.Core.Bool.{true}
+use mathlib.Core.List.{List}
+use native.Mathlib.Omega.{arith}
+use lib.IntN.{ℤ}
+use Rattle.definitions.specs.Words.{within, part}
+use Rattle.definitions.specs.Layout.{Bytes, lastYear, closeness, rowStart, meanOf}
+use Rattle.definitions.specs.Refusals.{clear, refuses, recordCheck}
 use Rattle.definitions.specs.Matrix.{passed, fails}
 use Rattle.definitions.specs.Machine.{refused, opened, judged, settled, going, written}
 use Rattle.integers.specs.Summation.{total}
+use Rattle.session.specs.declared.Session.{Session}
+use Rattle.session.specs.State.{stateOf}
+use Rattle.session.specs.Calls.{opensTo, HoldsFile}
+use Rattle.session.specs.Pinned.{ByNine, by-nine, Halves, halves-rounded}
 use Rattle.desk.specs.declared.answers.Refusal.{Refusal}
+use Rattle.desk.specs.declared.answers.Judged.{Judged}
+use Rattle.desk.specs.declared.answers.Swept.{Swept}
 use Rattle.desk.specs.Told.{refusalTold, judgeTold, sweepTold, rowTold}
+use Rattle.desk.specs.Calls.{Opens, Judges, Sweeps, Reads}
 
 abbrev refusal : ℕ → ℕ → Refusal
 refusal number place = record { number = number; place = place }
@@ -41,3 +54,34 @@ pinned = record {
   shown-row = refl;
   refused-row = refl;
 }
+
+-- ---- the contracts, each drawn on alone
+
+-- a call that is refused leaves the session as it was, and none is refused with the number 0
+module _ (s t : Session) where
+  pub open-refused : (file : Bytes) (r : Refusal) → Opens s file r t → r .number ≡ 9 → t ≡ s
+  open-refused file r call e = call .same (λ none. omega arith)
+
+  pub open-done : (file : Bytes) (r : Refusal) → Opens s file r t → opensTo (stateOf s) file .answer ≢ refused 0 0
+  open-done file r call = call .numbered 0
+
+  pub sweep-refused : (n : ℕ) (r : Swept) → Sweeps s n r t → r .refusal .number ≡ 23 → t ≡ s
+  sweep-refused n r call e = call .same (λ none. omega arith)
+
+module _ (f : Bytes) (s : Session) (μ : List ℤ) (count : ℕ) (open-file : HoldsFile s f μ count) where
+  module _ (mean : Bytes) (r : Judged) (call : Judges s mean r) where
+    pub judge-by-nine : closeness f ≡ 3 → r .passed ≡ 1 → ByNine f (part (meanOf (lastYear f) mean))
+    judge-by-nine close passing = by-nine f close (call .worth f μ count open-file passing)
+
+    pub judge-halves : recordCheck (lastYear f) mean ≡ clear → Halves f (part (meanOf (lastYear f) mean)) → r .passed ≡ 1
+    judge-halves right h = call .rounded f μ count open-file right (halves-rounded f h)
+
+  module _ (n : ℕ) (r : Swept) (t : Session) (call : Sweeps s n r t) (ν : List ℤ) where
+    pub sweep-by-nine : HoldsFile t f ν (r .total) → closeness f ≡ 3 → r .settled ≡ 1 → ByNine f (part ν)
+    sweep-by-nine then close settling = by-nine f close (call .worth f μ ν count open-file then settling)
+
+    pub sweep-halves : (after : ℕ) → HoldsFile t f ν after → within 1 4096 n ≡ true → Halves f (part ν) → r .settled ≡ 1
+    sweep-halves after then right h = call .rounded f μ ν count after open-file then right (halves-rounded f h)
+
+  pub read-by-nine : (buffer after : Bytes) (r : Refusal) → Reads s buffer r after → closeness f ≡ 3 → r .number ≡ 0 → ByNine f (part μ)
+  read-by-nine buffer after r call close writing = by-nine f close (call .worth f μ count open-file writing)

@@ -35,8 +35,8 @@ module _ (f : Bytes) (h : AcceptedFile f) (μ : Vector) where
   guaranteed small = record {
     nearly-least = λ m u _. rw (loss-is-form c 1 μ, loss-is-form c m u) (Form.nearly-least (lossForm c) e μ (small-form small) m u);
     near = λ m u _ none. Form.near (lossForm c) e μ (small-form small) m u (zero-form m u none);
-    strictly-least = λ none m u _ (k, below, differs). rw (loss-is-form c 1 μ, loss-is-form c m u)
-        (Form.strictly-least (lossForm c) e μ (file-owned f h .owned) (zero-form 1 μ none) m u k below differs);
+    strictly-least = λ none m u _ other. rw (loss-is-form c 1 μ, loss-is-form c m u)
+        (Form.strictly-least (lossForm c) e μ (file-owned f h .owned) (zero-form 1 μ none) m u (other .0) (other .1) (other .2));
   }
 
 pub demand3 : Demand3

@@ -19,23 +19,24 @@ use Rattle.session.specs.declared.Session.{Session}
 use Rattle.session.specs.declared.answers.JudgeAnswer.{JudgeAnswer}
 use Rattle.session.specs.declared.answers.JudgeAnswer.the-variants.{Passed}
 use Rattle.session.specs.declared.answers.SweepAnswer.{SweepAnswer}
-use Rattle.session.specs.declared.answers.SweepAnswer.the-variants.{Settled}
+use Rattle.session.specs.declared.answers.OpenAnswer.the-variants.{Refused as OpenRefused}
+use Rattle.session.specs.declared.answers.SweepAnswer.the-variants.{Settled, Refused as SweepRefused}
 use Rattle.session.specs.declared.answers.ReadAnswer.{ReadAnswer}
 use Rattle.session.specs.declared.answers.ReadAnswer.the-variants.{Written}
-use Rattle.session.specs.Calls.{HoldsFile, Judges, Sweeps, Reads}
+use Rattle.session.specs.Calls.{HoldsFile, Opens, Judges, Sweeps, Reads}
 
 module _ (f : Bytes) where
   -- of each part
-  abbrev Each : (ℕ → Type 0) → Type 0
+  abbrev pub Each : (ℕ → Type 0) → Type 0
   Each P = (k : ℕ) → k < 2 * lastYear f + 1 → P k
 
   -- with a closeness of 3: the loss of a mean is at most that of u/m and nine times the sum of own weights
-  abbrev ByNine : Vector → Type 0
+  abbrev pub ByNine : Vector → Type 0
   ByNine μ = (m : ℕ) (u : Vector) → 1 ≤ m
       → (pos (m * m) *ℤ loss (chainOf f) μ)
       ≤ℤ (lossTimes (chainOf f) m u +ℤ pos (m * m * (9 * total (2 * lastYear f + 1) (own (chainOf f)))))
 
-  by-nine : closeness f ≡ 3 → {μ : Vector} → Guarantee f μ → ByNine μ
+  pub by-nine : closeness f ≡ 3 → {μ : Vector} → Guarantee f μ → ByNine μ
   by-nine close worth m u some = rw close at (worth .nearly-least m u some)
 
   -- halves, at the limits of a part, with a closeness of 256: each part is just half a tick from u/2
@@ -46,7 +47,7 @@ module _ (f : Bytes) where
     pub exact : Each (λ k. residueTimes (chainOf f) 2 u k ≡ pos 0)
     pub half : Each (λ k. natAbs (u k -ℤ pos 2 *ℤ μ k) ≡ 1)
 
-  halves-rounded : {μ : Vector} → Halves μ → Rounded f μ
+  pub halves-rounded : {μ : Vector} → Halves μ → Rounded f μ
   halves-rounded h = record {
     room = le-of-eq (sym (h .close));
     inside = λ k below. le-of-eq (h .limits k below);
@@ -76,3 +77,11 @@ module _ (f : Bytes) where
     module _ (buffer : Bytes) {a : ReadAnswer} {now : Bytes} (call : Reads s buffer a now) where
       pub read-by-nine : closeness f ≡ 3 → a ≡ Written → ByNine (part μ)
       read-by-nine close writing = by-nine close (call .worth f μ count open-file writing)
+
+-- ---- a call that is refused leaves the session as it was
+
+pub open-refused : (s t : Session) (file : Bytes) → Opens s file (record { answer = OpenRefused 9 86; session = t }) → t ≡ s
+open-refused s t file call = call .same 9 86 refl
+
+pub sweep-refused : (s t : Session) (n : ℕ) → Sweeps s n (record { answer = SweepRefused 23 0; session = t }) → t ≡ s
+sweep-refused s t n call = call .same 23 0 refl
