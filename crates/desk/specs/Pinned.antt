@@ -12,10 +12,10 @@ use Rattle.definitions.specs.Refusals.{clear, refuses, recordCheck}
 use Rattle.definitions.specs.Matrix.{passed, fails}
 use Rattle.definitions.specs.Machine.{refused, opened, judged, settled, going, written}
 use Rattle.integers.specs.Summation.{total}
+use Rattle.laws.specs.Pinned.{ByNine, by-nine, Halves, halves-rounded}
 use Rattle.session.specs.declared.Session.{Session}
 use Rattle.session.specs.State.{stateOf}
 use Rattle.session.specs.Calls.{opensTo, HoldsFile}
-use Rattle.session.specs.Pinned.{ByNine, by-nine, Halves, halves-rounded}
 use Rattle.desk.specs.declared.answers.Refusal.{Refusal}
 use Rattle.desk.specs.declared.answers.Judged.{Judged}
 use Rattle.desk.specs.declared.answers.Swept.{Swept}
