@@ -1,26 +1,29 @@
--- What C is told, case by case and in plain numbers, as include/desk.h has it; and its contracts at the limits of demand 3.
-use Prim.Native.Nat.{ℕ}
-use mathlib.Core.Path.{_≡_, refl}
+-- What C is told, case by case and in plain numbers, as include/desk.h has it;
+-- and what C's callers can count on, each drawn from the contract of a call alone.
+use Prim.Native.Nat.{ℕ, _+_, _≤_}
+use mathlib.Core.Path.{_≡_, refl, ap, _∙_}
 use mathlib.Core.Logic.{_≢_}
 use mathlib.Core.Bool.{true}
 use mathlib.Core.List.{List}
 use native.Mathlib.Omega.{arith}
 use lib.IntN.{ℤ}
+use lib.ListN.{length, take, drop}
 use Rattle.definitions.specs.Words.{within, part}
 use Rattle.definitions.specs.Layout.{Bytes, lastYear, closeness, rowStart, meanOf}
-use Rattle.definitions.specs.Refusals.{clear, refuses, recordCheck}
+use Rattle.definitions.specs.Refusals.{clear, refuses, rowCheck, recordCheck}
 use Rattle.definitions.specs.Matrix.{passed, fails}
-use Rattle.definitions.specs.Machine.{refused, opened, judged, settled, going, written}
+use Rattle.definitions.specs.Machine.{refused, opened, judged, settled, going, written, empty, rowPart}
 use Rattle.integers.specs.Summation.{total}
-use Rattle.laws.specs.Pinned.{ByNine, by-nine, Halves, halves-rounded}
+use Rattle.laws.specs.Pinned.{Worth, worth, Near, rounded}
 use Rattle.session.specs.declared.Session.{Session}
-use Rattle.session.specs.State.{stateOf}
-use Rattle.session.specs.Calls.{opensTo, HoldsFile}
+use Rattle.session.specs.State.{stateOf, sessionHeld}
+use Rattle.session.specs.Calls.{opensTo, judgesTo, sweepsTo, readsTo, HoldsFile}
 use Rattle.desk.specs.declared.answers.Refusal.{Refusal}
 use Rattle.desk.specs.declared.answers.Judged.{Judged}
 use Rattle.desk.specs.declared.answers.Swept.{Swept}
+use Rattle.desk.specs.declared.answers.RowShown.{RowShown}
 use Rattle.desk.specs.Told.{refusalTold, judgeTold, sweepTold, rowTold}
-use Rattle.desk.specs.Calls.{Opens, Judges, Sweeps, Reads}
+use Rattle.desk.specs.Calls.{Opens, Judges, Sweeps, Reads, Closes, ShowsRow}
 
 abbrev refusal : ℕ → ℕ → Refusal
 refusal number place = record { number = number; place = place }
@@ -57,31 +60,85 @@ pinned = record {
 
 -- ---- the contracts, each drawn on alone
 
--- a call that is refused leaves the session as it was, and none is refused with the number 0
+-- what C gets and what is left, by the machine's outcome; a call that is refused leaves the session as it was
 module _ (s t : Session) where
-  pub open-refused : (file : Bytes) (r : Refusal) → Opens s file r t → r .number ≡ 9 → t ≡ s
-  open-refused file r call e = call .same (λ none. omega arith)
+  module _ (file : Bytes) (r : Refusal) (call : Opens s file r t) where
+    pub open-told : opensTo (stateOf s) file .answer ≡ refused 9 86 → r ≡ refusal 9 86
+    open-told e = call .told ∙ ap refusalTold e
 
-  pub open-done : (file : Bytes) (r : Refusal) → Opens s file r t → opensTo (stateOf s) file .answer ≢ refused 0 0
-  open-done file r call = call .numbered 0
+    pub open-state : stateOf t ≡ opensTo (stateOf s) file .state
+    open-state = call .state
 
-  pub sweep-refused : (n : ℕ) (r : Swept) → Sweeps s n r t → r .refusal .number ≡ 23 → t ≡ s
-  sweep-refused n r call e = call .same (λ none. omega arith)
+    pub open-refused : r .number ≡ 9 → t ≡ s
+    open-refused e = call .same (λ none. omega arith)
+
+    pub open-done : opensTo (stateOf s) file .answer ≢ refused 0 0
+    open-done = call .numbered 0
+
+  module _ (n : ℕ) (r : Swept) (call : Sweeps s n r t) where
+    pub sweep-told : sweepsTo (stateOf s) n .answer ≡ refused 23 0 → r ≡ record { refusal = refusal 23 0; settled = 0; total = 0 }
+    sweep-told e = call .told ∙ ap sweepTold e
+
+    pub sweep-state : stateOf t ≡ sweepsTo (stateOf s) n .state
+    sweep-state = call .state
+
+    pub sweep-refused : r .refusal .number ≡ 23 → t ≡ s
+    sweep-refused e = call .same (λ none. omega arith)
+
+    pub sweep-done : sweepsTo (stateOf s) n .answer ≢ refused 0 0
+    sweep-done = call .numbered 0
+
+  pub closed : (held : List ℕ) → Closes held → (own : List ℕ) (A b μ : List ℤ) → stateOf (sessionHeld held own A b μ) ≡ empty
+  closed held call = call
+
+module _ (s : Session) (lent : Bytes) where
+  module _ (r : Judged) (call : Judges s lent r) where
+    pub judge-told : judgesTo (stateOf s) lent ≡ judged (fails 2) → r ≡ record { refusal = refusal 0 0; passed = 0; part = 2 }
+    judge-told e = call .told ∙ ap judgeTold e
+
+    pub judge-done : judgesTo (stateOf s) lent ≢ refused 0 0
+    judge-done = call .numbered 0
+
+  module _ (r : Refusal) (after : Bytes) (call : Reads s lent r after) where
+    pub read-told : readsTo (stateOf s) lent .answer ≡ refused 24 0 → r ≡ refusal 24 0
+    read-told e = call .told ∙ ap refusalTold e
+
+    pub read-buffer : after ≡ readsTo (stateOf s) lent .buffer
+    read-buffer = call .buffer
+
+    pub read-done : readsTo (stateOf s) lent .answer ≢ refused 0 0
+    read-done = call .numbered 0
+
+module _ (file : Bytes) (channel year : ℕ) (r : RowShown) (call : ShowsRow file channel year r) where
+  pub row-told : rowCheck file channel year ≡ refuses 15 0 → r ≡ record { refusal = refusal 15 0; start = 0; length = 0 }
+  row-told e = call .told ∙ ap (rowTold (lastYear file) channel year) e
+
+  pub row-shows : take (r .length) (drop (r .start) file) ≡ rowPart file channel year
+  row-shows = call .shows
+
+  pub row-inside : r .start + r .length ≤ length file
+  row-inside = call .inside
+
+  pub row-empty : r .refusal .number ≡ 15 → r .length ≡ 0
+  row-empty e = call .empty-refused .1 (λ none. omega arith)
+
+  pub row-done : rowCheck file channel year ≢ refuses 0 0
+  row-done = call .numbered 0
 
 module _ (f : Bytes) (s : Session) (μ : List ℤ) (count : ℕ) (open-file : HoldsFile s f μ count) where
   module _ (mean : Bytes) (r : Judged) (call : Judges s mean r) where
-    pub judge-by-nine : closeness f ≡ 3 → r .passed ≡ 1 → ByNine f (part (meanOf (lastYear f) mean))
-    judge-by-nine close passing = by-nine f close (call .worth f μ count open-file passing)
+    pub judge-worth : {e : ℕ} → closeness f ≡ e → r .passed ≡ 1 → Worth f e (part (meanOf (lastYear f) mean))
+    judge-worth close passing = worth f close (call .worth f μ count open-file passing)
 
-    pub judge-halves : recordCheck (lastYear f) mean ≡ clear → Halves f (part (meanOf (lastYear f) mean)) → r .passed ≡ 1
-    judge-halves right h = call .rounded f μ count open-file right (halves-rounded f h)
+    pub judge-rounded : recordCheck (lastYear f) mean ≡ clear → Near f (part (meanOf (lastYear f) mean)) → r .passed ≡ 1
+    judge-rounded right h = call .rounded f μ count open-file right (rounded f h)
 
   module _ (n : ℕ) (r : Swept) (t : Session) (call : Sweeps s n r t) (ν : List ℤ) where
-    pub sweep-by-nine : HoldsFile t f ν (r .total) → closeness f ≡ 3 → r .settled ≡ 1 → ByNine f (part ν)
-    sweep-by-nine then close settling = by-nine f close (call .worth f μ ν count open-file then settling)
+    pub sweep-worth : HoldsFile t f ν (r .total) → {e : ℕ} → closeness f ≡ e → r .settled ≡ 1 → Worth f e (part ν)
+    sweep-worth then close settling = worth f close (call .worth f μ ν count open-file then settling)
 
-    pub sweep-halves : (after : ℕ) → HoldsFile t f ν after → within 1 4096 n ≡ true → Halves f (part ν) → r .settled ≡ 1
-    sweep-halves after then right h = call .rounded f μ ν count after open-file then right (halves-rounded f h)
+    pub sweep-rounded : (after : ℕ) → HoldsFile t f ν after → within 1 4096 n ≡ true → Near f (part ν) → r .settled ≡ 1
+    sweep-rounded after then right h = call .rounded f μ ν count after open-file then right (rounded f h)
 
-  pub read-by-nine : (buffer after : Bytes) (r : Refusal) → Reads s buffer r after → closeness f ≡ 3 → r .number ≡ 0 → ByNine f (part μ)
-  read-by-nine buffer after r call close writing = by-nine f close (call .worth f μ count open-file writing)
+  pub read-worth : (buffer after : Bytes) (r : Refusal) → Reads s buffer r after → {e : ℕ} → closeness f ≡ e → r .number ≡ 0 → Worth f e (part μ)
+  read-worth buffer after r call close writing = worth f close (call .worth f μ count open-file writing)

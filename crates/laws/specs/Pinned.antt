@@ -1,25 +1,25 @@
--- Demand 3 at its very limits, in plain numbers. Each is drawn from the general statements, so that none of them can be weakened
--- and still give these. Pinned are: a residue of just e·D passes; the slack is e² and not e times the sum of own weights; another
--- vector may differ in one part alone; rounding is promised from a closeness of 256 on, for parts of −2^26 and 2^26 and for just
--- half a tick.
+-- Demand 3 once more, in plain numbers and with nothing named: drawn from the general statements, so that none of them can be
+-- weakened and still give these. Pinned are: a residue of just e·D passes; the slack is e² and not e times the sum of own weights;
+-- u is over any m ≥ 1; another vector may differ in one part alone; rounding is promised from a closeness of 256 on, up to −2^26
+-- and 2^26, and for just half a tick. And the machine's outcome of a call is what the contract of that call speaks of.
 use Prim.Native.Nat.{ℕ, _+_, _*_, _≤_, _<_}
-use mathlib.Core.Path.{_≡_, sym, ap, subst, _∙_}
+use mathlib.Core.Path.{_≡_, refl, sym, ap, _∙_}
 use mathlib.Core.Logic.{_≢_}
 use mathlib.Core.Bool.{true}
-use mathlib.Core.List.{[], _∷_}
+use mathlib.Core.List.{[]}
 use native.Mathlib.Nat.{le-of-eq}
-use native.Mathlib.Omega.{arith}
 use lib.IntN.{ℤ, pos, natAbs, _+ℤ_, _-ℤ_, _*ℤ_}
 use lib.Signed.{_≤ℤ_, _<ℤ_}
-use Rattle.integers.specs.Ring.{*ℤ-idl}
-use Rattle.integers.specs.Solver.{ring, num, _⊟_, _⊠_, _≐_}
 use Rattle.integers.specs.Sum.{sum, total}
 use Rattle.definitions.specs.Layout.{Bytes, lastYear, closeness}
 use Rattle.definitions.specs.Loss.{Vector, loss, lossTimes}
 use Rattle.definitions.specs.Observations.{chainOf}
-use Rattle.definitions.specs.Matrix.{own, residueTimes, figuresOf, passes}
-use Rattle.definitions.specs.Machine.{accepted}
-use Rattle.definitions.specs.Guarantee.{Guarantee, Rounded, Another}
+use Rattle.definitions.specs.Refusals.{rowCheck}
+use Rattle.definitions.specs.Matrix.{own, residueTimes, Figures, figuresOf, passes}
+use Rattle.definitions.specs.Machine.{accepted, State, empty, open-file, judge, sweep, read, row, row-told, close}
+use Rattle.definitions.specs.Machine.{closed, part-shown, row-is-shown, refusedOr, rowPart}
+use Rattle.definitions.specs.Machine.{openCall, judgeCall, sweepCall, readCall, outcome, figuresMachine}
+use Rattle.definitions.specs.Guarantee.{Guarantee, Rounded}
 use Rattle.laws.specs.Demand3.{demand3}
 use Rattle.laws.specs.Judged.{passes-of-small}
 
@@ -34,78 +34,86 @@ module _ (f : Bytes) where
   abbrev residueOf : ℕ → Vector → ℕ → ℤ
   residueOf = residueTimes (chainOf f)
 
-  -- ---- with a closeness of 3
+  -- e² times the sum of own weights, times m²
+  abbrev slackOf : ℕ → ℕ → ℤ
+  slackOf e m = pos (m * m * (e * e * total (2 * lastYear f + 1) D))
 
-  -- nine times the sum of own weights, for a denominator m
-  abbrev slackOfNine : ℕ → ℤ
-  slackOfNine m = pos (m * m * (9 * total (2 * lastYear f + 1) D))
-
-  -- a mean's loss is at most that of u/m and the slack, and u/m of zero residue is within it
-  pub record ByNine (μ : Vector) : Type 0 where
+  -- what a mean that passes is worth, with closeness e
+  pub record Worth (e : ℕ) (μ : Vector) : Type 0 where
     pub nearly-least : (m : ℕ) (u : Vector) → 1 ≤ m
-        → (pos (m * m) *ℤ loss (chainOf f) μ) ≤ℤ (lossTimes (chainOf f) m u +ℤ slackOfNine m)
+        → (pos (m * m) *ℤ loss (chainOf f) μ) ≤ℤ (lossTimes (chainOf f) m u +ℤ slackOf e m)
     pub near : (m : ℕ) (u : Vector) → 1 ≤ m → Each (λ k. residueOf m u k ≡ pos 0)
-        → sum (2 * lastYear f + 1) (λ k. pos (D k) *ℤ ((u k -ℤ pos m *ℤ μ k) *ℤ (u k -ℤ pos m *ℤ μ k))) ≤ℤ slackOfNine m
+        → sum (2 * lastYear f + 1) (λ k. pos (D k) *ℤ ((u k -ℤ pos m *ℤ μ k) *ℤ (u k -ℤ pos m *ℤ μ k))) ≤ℤ slackOf e m
+    -- u/m differs in part p, and perhaps in no other
+    pub strictly-least : Each (λ k. residueOf 1 μ k ≡ pos 0)
+        → (m : ℕ) (u : Vector) → 1 ≤ m → (p : ℕ) → p < 2 * lastYear f + 1 → u p ≢ pos m *ℤ μ p
+        → (pos (m * m) *ℤ loss (chainOf f) μ) <ℤ lossTimes (chainOf f) m u
 
-  pub by-nine : closeness f ≡ 3 → {μ : Vector} → Guarantee f μ → ByNine μ
-  by-nine close worth = record {
-    nearly-least = λ m u some. rw close at (worth .nearly-least m u some);
-    near = λ m u some none. rw close at (worth .near m u some none);
+  pub worth : {e : ℕ} → closeness f ≡ e → {μ : Vector} → Guarantee f μ → Worth e μ
+  worth e-is g = record {
+    nearly-least = λ m u some. rw e-is at (g .nearly-least m u some);
+    near = λ m u some none. rw e-is at (g .near m u some none);
+    strictly-least = λ none m u some p below other. g .strictly-least none m u some (p, below, other);
   }
 
-  -- ---- with a closeness of 256
-
-  -- halves at the limits of a part: just half a tick from u/2
-  pub record Halves (μ : Vector) : Type 0 where
-    pub close : closeness f ≡ 256
-    pub limits : Each (λ k. natAbs (μ k) ≡ 67108864)
+  -- what is known of a mean that was rounded
+  pub record Near (μ : Vector) : Type 0 where
+    pub room : 256 ≤ closeness f
+    pub limits : Each (λ k. natAbs (μ k) ≤ 67108864)
+    pub m : ℕ
     pub u : Vector
-    pub exact : Each (λ k. residueOf 2 u k ≡ pos 0)
-    pub half : Each (λ k. natAbs (u k -ℤ pos 2 *ℤ μ k) ≡ 1)
+    pub some : 1 ≤ m
+    pub exact : Each (λ k. residueOf m u k ≡ pos 0)
+    pub half : Each (λ k. 2 * natAbs (u k -ℤ pos m *ℤ μ k) ≤ m)
 
-  pub halves-rounded : {μ : Vector} → Halves μ → Rounded f μ
-  halves-rounded h = record {
-    room = le-of-eq (sym (h .close));
-    inside = λ k below. le-of-eq (h .limits k below);
-    m = 2;
+  pub rounded : {μ : Vector} → Near μ → Rounded f μ
+  rounded h = record {
+    room = h .room;
+    inside = h .limits;
+    m = h .m;
     u = h .u;
-    some = omega arith;
+    some = h .some;
     exact = h .exact;
-    half = λ k below. omega (arith, h .half k below);
+    half = h .half;
   }
 
   -- ---- of an accepted file
 
   module _ (yes-file : accepted f ≡ true) (μ : Vector) where
-    -- residues of just three own weights
-    pub at-bound-by-nine : closeness f ≡ 3 → Each (λ k. natAbs (residueOf 1 μ k) ≡ 3 * D k) → ByNine μ
-    at-bound-by-nine close at-bound =
-        by-nine close (demand3 .guarantee f yes-file μ (passes-of-small f μ (λ k below.
-        le-of-eq (at-bound k below ∙ ap (λ e. e * D k) (sym close)))))
+    -- each residue as large as the test lets it be
+    pub at-the-bound : (e : ℕ) → closeness f ≡ e → Each (λ k. natAbs (residueOf 1 μ k) ≡ e * D k) → Worth e μ
+    at-the-bound e e-is at-bound =
+        worth e-is (demand3 .guarantee f yes-file μ (passes-of-small f μ (λ k below.
+        le-of-eq (at-bound k below ∙ ap (λ e. e * D k) (sym e-is)))))
 
-    -- a vector that differs in part p alone
-    pub least-by-one-part : Each (λ k. residueOf 1 μ k ≡ pos 0) → (u : Vector) (p : ℕ) → p < 2 * lastYear f + 1 → u p ≢ μ p
-        → loss (chainOf f) μ <ℤ loss (chainOf f) u
-    least-by-one-part none u p below other =
-        let another : Another f 1 u μ = (p, below, λ same. other (same ∙ *ℤ-idl (μ p))) in
-        subst (λ z. z <ℤ loss (chainOf f) u) (*ℤ-idl (loss (chainOf f) μ))
-        (demand3 .guarantee f yes-file μ passes-exact .strictly-least none 1 u (omega arith) another)
-      where
-        passes-exact : passes (figuresOf f) μ ≡ true
-        passes-exact = passes-of-small f μ (λ k below. subst (λ z. natAbs z ≤ closeness f * D k) (sym (none k below)) (omega arith))
+    pub near-passes : Near μ → passes (figuresOf f) μ ≡ true
+    near-passes h = demand3 .rounding f yes-file μ (rounded h)
 
-    pub halves-pass : Halves μ → passes (figuresOf f) μ ≡ true
-    halves-pass h = demand3 .rounding f yes-file μ (halves-rounded h)
+-- ---- the machine, call by call
 
-    -- and at the largest closeness too
-    pub exact-passes-at-65536 : closeness f ≡ 65536 → Each (λ k. natAbs (μ k) ≤ 67108864) → Each (λ k. residueOf 1 μ k ≡ pos 0)
-        → passes (figuresOf f) μ ≡ true
-    exact-passes-at-65536 close limits none = demand3 .rounding f yes-file μ (record {
-      room = omega (arith, close);
-      inside = limits;
-      m = 1;
-      u = μ;
-      some = omega arith;
-      exact = none;
-      half = λ k _. rw (ring (μ k ∷ []) (λ x. x ⊟ num 1 ⊠ x ≐ num 0) tt) (omega arith);
-    })
+module _ (st : State Figures) where
+  pub record Machine : Type 0 where
+    pub opens : (f : Bytes) → figuresMachine st (open-file f) ≡ openCall Figures figuresOf (λ F. F) st f
+    pub judges : (r : Bytes) → figuresMachine st (judge r) .answer ≡ judgeCall Figures figuresOf (λ F. F) st r
+    pub judges-alone : (r : Bytes) → figuresMachine st (judge r) .state ≡ st
+    pub sweeps : (n : ℕ) → figuresMachine st (sweep n) ≡ sweepCall Figures figuresOf (λ F. F) st n
+    pub reads : (b : Bytes) → figuresMachine st (read b) ≡ readCall Figures figuresOf (λ F. F) st b
+    pub shows : (f : Bytes) (channel year : ℕ)
+        → figuresMachine st (row f channel year) ≡ record { answer = part-shown (rowPart f channel year); state = st; buffer = [] }
+    pub tells : (f : Bytes) (channel year : ℕ)
+        → figuresMachine st (row-told f channel year)
+        ≡ record { answer = refusedOr (rowCheck f channel year) row-is-shown; state = st; buffer = [] }
+    pub closes : figuresMachine st close ≡ record { answer = closed; state = empty; buffer = [] }
+
+  pub machine : Machine
+  unfolding outcome
+  machine = record {
+    opens = λ f. refl;
+    judges = λ r. refl;
+    judges-alone = λ r. refl;
+    sweeps = λ n. refl;
+    reads = λ b. refl;
+    shows = λ f channel year. refl;
+    tells = λ f channel year. refl;
+    closes = refl;
+  }

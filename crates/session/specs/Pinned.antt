@@ -1,42 +1,46 @@
--- The calls' contracts at the limits of demand 3, in plain numbers, each drawn from the contract alone: what callers can count on.
+-- What callers can count on, in plain numbers, each drawn from the contract of a call alone.
 use Prim.Native.Nat.{ℕ, _≤_}
-use mathlib.Core.Path.{_≡_, refl}
+use mathlib.Core.Path.{_≡_, refl, ap, _∙_}
 use mathlib.Core.List.{List}
+use native.Mathlib.Omega.{arith}
 use lib.IntN.{ℤ}
-use Rattle.definitions.specs.Words.{part}
-use Rattle.definitions.specs.Layout.{Bytes, lastYear, closeness, meanOf}
-use Rattle.definitions.specs.Refusals.{clear, recordCheck}
-use Rattle.laws.specs.Pinned.{ByNine, by-nine, Halves, halves-rounded}
+use Rattle.definitions.specs.Words.{tabFrom, part}
+use Rattle.definitions.specs.Layout.{Bytes, lastYear, parts, priorMean, closeness, meanOf}
+use Rattle.definitions.specs.Refusals.{Check, clear, refuses, recordCheck}
+use Rattle.definitions.specs.Matrix.{Figures, figuresOf}
+use Rattle.definitions.specs.Machine.{Answer, opened, refused, empty, Outcome, isClear, openCheck, openUnless, openCall}
+use Rattle.laws.specs.Pinned.{Worth, worth, Near, rounded}
 use Rattle.layout.specs.CheckLaws.{within-yes}
 use Rattle.session.specs.declared.Session.{Session}
 use Rattle.session.specs.declared.answers.JudgeAnswer.{JudgeAnswer}
 use Rattle.session.specs.declared.answers.JudgeAnswer.the-variants.{Passed}
 use Rattle.session.specs.declared.answers.SweepAnswer.{SweepAnswer}
-use Rattle.session.specs.declared.answers.OpenAnswer.the-variants.{Refused as OpenRefused}
+use Rattle.session.specs.declared.answers.OpenAnswer.the-variants.{Opened, Refused as OpenRefused}
 use Rattle.session.specs.declared.answers.SweepAnswer.the-variants.{Settled, Refused as SweepRefused}
 use Rattle.session.specs.declared.answers.ReadAnswer.{ReadAnswer}
 use Rattle.session.specs.declared.answers.ReadAnswer.the-variants.{Written}
-use Rattle.session.specs.Calls.{HoldsFile, Opens, Judges, Sweeps, Reads}
+use Rattle.session.specs.State.{stateOf}
+use Rattle.session.specs.Calls.{opensTo, HoldsFile, Opens, Judges, Sweeps, Reads}
 
 module _ (f : Bytes) (s : Session) (μ : List ℤ) (count : ℕ) (open-file : HoldsFile s f μ count) where
   module _ (r : Bytes) {a : JudgeAnswer} (call : Judges s r a) where
-    pub judge-by-nine : closeness f ≡ 3 → a ≡ Passed → ByNine f (part (meanOf (lastYear f) r))
-    judge-by-nine close passing = by-nine f close (call .worth f μ count open-file passing)
+    pub judge-worth : {e : ℕ} → closeness f ≡ e → a ≡ Passed → Worth f e (part (meanOf (lastYear f) r))
+    judge-worth close passing = worth f close (call .worth f μ count open-file passing)
 
-    pub judge-halves : recordCheck (lastYear f) r ≡ clear → Halves f (part (meanOf (lastYear f) r)) → a ≡ Passed
-    judge-halves right h = call .rounded f μ count open-file right (halves-rounded f h)
+    pub judge-rounded : recordCheck (lastYear f) r ≡ clear → Near f (part (meanOf (lastYear f) r)) → a ≡ Passed
+    judge-rounded right h = call .rounded f μ count open-file right (rounded f h)
 
   module _ (n : ℕ) {a : SweepAnswer} {t : Session} (call : Sweeps s n (record { answer = a; session = t })) (ν : List ℤ) (after : ℕ)
       (then : HoldsFile t f ν after) where
-    pub sweep-by-nine : closeness f ≡ 3 → a ≡ Settled after → ByNine f (part ν)
-    sweep-by-nine close settling = by-nine f close (call .worth f μ ν count after open-file then settling)
+    pub sweep-worth : {e : ℕ} → closeness f ≡ e → a ≡ Settled after → Worth f e (part ν)
+    sweep-worth close settling = worth f close (call .worth f μ ν count after open-file then settling)
 
-    pub sweep-halves : 1 ≤ n → n ≤ 4096 → Halves f (part ν) → a ≡ Settled after
-    sweep-halves from to h = call .rounded f μ ν count after open-file then (within-yes refl from to) (halves-rounded f h)
+    pub sweep-rounded : 1 ≤ n → n ≤ 4096 → Near f (part ν) → a ≡ Settled after
+    sweep-rounded from to h = call .rounded f μ ν count after open-file then (within-yes refl from to) (rounded f h)
 
   module _ (buffer : Bytes) {a : ReadAnswer} {now : Bytes} (call : Reads s buffer a now) where
-    pub read-by-nine : closeness f ≡ 3 → a ≡ Written → ByNine f (part μ)
-    read-by-nine close writing = by-nine f close (call .worth f μ count open-file writing)
+    pub read-worth : {e : ℕ} → closeness f ≡ e → a ≡ Written → Worth f e (part μ)
+    read-worth close writing = worth f close (call .worth f μ count open-file writing)
 
 -- ---- a call that is refused leaves the session as it was
 
@@ -45,3 +49,22 @@ open-refused s t file call = call .same 9 86 refl
 
 pub sweep-refused : (s t : Session) (n : ℕ) → Sweeps s n (record { answer = SweepRefused 23 0; session = t }) → t ≡ s
 sweep-refused s t n call = call .same 23 0 refl
+
+-- ---- what open leaves is a file that the others speak of
+
+opened-refused : {number place : ℕ} → _≡_ {A = Answer} opened (refused number place) → ⊥
+opened-refused e = let z : _≡_ {A = ℕ} 0 1 = cc in omega arith
+
+pub opened-holds : (s t : Session) (f : Bytes) → stateOf s ≡ empty → Opens s f (record { answer = Opened; session = t })
+    → HoldsFile t f (tabFrom 0 (parts (lastYear f)) (priorMean f)) 0
+unfolding openCall
+opened-holds s t f none call =
+    by-check (openCheck f) refl (call .answer ∙ ap (λ st. opensTo st f .answer) none) (call .state ∙ ap (λ st. opensTo st f .state) none)
+  where
+    to : Check → Outcome Figures
+    to c = openUnless Figures figuresOf (λ F. F) c f
+
+    by-check : (c : Check) → openCheck f ≡ c → opened ≡ to c .answer → stateOf t ≡ to c .state
+        → HoldsFile t f (tabFrom 0 (parts (lastYear f)) (priorMean f)) 0
+    by-check clear e a st = record { file = ap isClear e; state = st }
+    by-check (refuses number place) e a st = absurd (opened-refused a)
