@@ -2,8 +2,8 @@
 
 The border is every function that can be called from outside: the calls of the README's table, the public functions of the session,
 what C calls, and `list`, which makes the page of the listing. From the names in their contracts the imports are followed, module by
-module. Every module of this repository that is reached must be in the README's list, whose folders stand for all that is in them,
-and every entry of the list must be reached. Types that Rattle declares are in its sources, and the rest is the kit's.
+module. Every module of this repository that is reached, and every source that such a contract stands in, must be in the README's
+list, whose folders stand for all that is in them, and every entry of the list must be reached. Types that Rattle declares are in its sources, and the rest is the kit's.
 
     python3 tests/believed.py --print
 
@@ -134,6 +134,7 @@ def complaints() -> Iterator[str]:
         yield from (f"{path}: {name}, which can be called from outside, {said}" for said in of_contract((path, name)))
     through, lost = reached()
     yield from lost
+    through = {path: f"the contract of {name}" for path, name in border()} | through
     for path, by in through.items():
         if not any(covers(entry, path) for entry in listed()):
             yield f"{path} is reached through {by}, and the README does not list it as what must be believed"

@@ -26,7 +26,7 @@ class Readme(unittest.TestCase):
         printed = done.stdout.splitlines()
         self.assertEqual(len(printed), len(comments))
         for line, comment in zip(printed, comments):
-            self.assertTrue(comment.startswith(line), f"{line!r} is printed, and {comment!r} is said")
+            self.assertRegex(comment, rf"{re.escape(line)}(?!\w)", f"{line!r} is printed, and {comment!r} is said")
 
 
 if __name__ == "__main__":

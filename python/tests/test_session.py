@@ -127,6 +127,13 @@ class Sessions(unittest.TestCase):
         self.assertEqual(caught.exception.number, 21)
         desk.open(F)  # a closed session can be opened again
 
+    def test_context_that_fails(self) -> None:
+        desk = Session()
+        with self.assertRaises(ZeroDivisionError), desk:
+            desk.open(F)
+            raise ZeroDivisionError
+        desk.open(F)
+
     def test_apart(self) -> None:
         one, other = Session(), Session()
         one.open(F)

@@ -140,5 +140,6 @@ module _ (f : Bytes) (s : Session) (μ : List ℤ) (count : ℕ) (open-file : Ho
     pub sweep-rounded : (after : ℕ) → HoldsFile t f ν after → within 1 4096 n ≡ true → Near f (part ν) → r .settled ≡ 1
     sweep-rounded after then right h = call .rounded f μ ν count after open-file then right (rounded f h)
 
-  pub read-worth : (buffer after : Bytes) (r : Refusal) → Reads s buffer r after → {e : ℕ} → closeness f ≡ e → r .number ≡ 0 → Worth f e (part μ)
+  pub read-worth : (buffer after : Bytes) (r : Refusal) → Reads s buffer r after
+      → {e : ℕ} → closeness f ≡ e → r .number ≡ 0 → Worth f e (part μ)
   read-worth buffer after r call close writing = worth f close (call .worth f μ count open-file writing)

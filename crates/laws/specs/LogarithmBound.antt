@@ -1,4 +1,4 @@
--- Document 01's claim about the logarithm: 2^L ≤ a^T < 2^(L+2). It holds for any number k of squarings up to 29, T being 2^k.
+-- Document 01's claim about the logarithm: 2^L ≤ a^T < 2^(L+2). It holds for any number k of squarings up to 28, T being 2^k.
 --
 -- After each squaring y and the bits l so far bracket the power p of the amount: 2^l·y ≤ p·N, and p·N·N^c ≤ 2^l·y·(N + 1)^c, where
 -- N is 2^31 and c counts the roundings so far, of which a squaring doubles those before it and adds one.

@@ -1,8 +1,9 @@
 -- Demand 3 once more, in plain numbers and with nothing named: drawn from the general statements, so that none of them can be
 -- weakened and still give these. Pinned are: a residue of just e·D passes; the slack is e² and not e times the sum of own weights;
 -- u is over any m ≥ 1; another vector may differ in one part alone; rounding is promised from a closeness of 256 on, up to −2^26
--- and 2^26, and for just half a tick. And the machine's outcome of a call is what the contract of that call speaks of.
-use Prim.Native.Nat.{ℕ, _+_, _*_, _≤_, _<_}
+-- and 2^26, and for just half a tick. So with the bound of the logarithm. And the machine's outcome of a call is what the contract of
+-- that call speaks of.
+use Prim.Native.Nat.{ℕ, _+_, _*_, _^_, _≤_, _<_}
 use mathlib.Core.Path.{_≡_, refl, sym, ap, _∙_}
 use mathlib.Core.Logic.{_≢_}
 use mathlib.Core.Bool.{true}
@@ -12,6 +13,7 @@ use lib.IntN.{ℤ, pos, natAbs, _+ℤ_, _-ℤ_, _*ℤ_}
 use lib.Signed.{_≤ℤ_, _<ℤ_}
 use Rattle.integers.specs.Sum.{sum, total}
 use Rattle.definitions.specs.Layout.{Bytes, lastYear, closeness}
+use Rattle.definitions.specs.Logarithm.{logarithm}
 use Rattle.definitions.specs.Loss.{Vector, loss, lossTimes}
 use Rattle.definitions.specs.Observations.{chainOf}
 use Rattle.definitions.specs.Refusals.{rowCheck}
@@ -22,6 +24,7 @@ use Rattle.definitions.specs.Machine.{openCall, judgeCall, sweepCall, readCall,
 use Rattle.definitions.specs.Guarantee.{Guarantee, Rounded}
 use Rattle.laws.specs.Demand3.{demand3}
 use Rattle.laws.specs.Judged.{passes-of-small}
+use Rattle.laws.specs.LogarithmBound.{logarithm-bound}
 
 module _ (f : Bytes) where
   -- of each part
@@ -88,6 +91,12 @@ module _ (f : Bytes) where
 
     pub near-passes : Near μ → passes (figuresOf f) μ ≡ true
     near-passes h = demand3 .rounding f yes-file μ (rounded h)
+
+-- ---- the logarithm of every amount of 64 bits
+
+pub logarithm-within-two-ticks : (a : ℕ) → 1 ≤ a → a < 2 ^ 64
+    → (2 ^ logarithm a ≤ a ^ 1048576) × (a ^ 1048576 < 2 ^ (logarithm a + 2))
+logarithm-within-two-ticks a one small = let bound = logarithm-bound a one small in (bound .at-least, bound .less-than)
 
 -- ---- the machine, call by call
 

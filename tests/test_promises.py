@@ -1,0 +1,59 @@
+"""Promises that no proof builds on, and that could therefore be dropped or emptied unseen: each is expected by its name."""
+
+import re
+import unittest
+
+from believed import border, contract
+from declared import text_of
+
+# The record that the contract of each function at the border must be, or what its equation must be with.
+CONTRACTS = {
+    "open": "Opens", "judge": "Judges", "sweep": "Sweeps", "read": "Reads", "close": "stateOf", "empty": "stateOf",
+    "open_lent": "Opens", "judge_lent": "Judges", "sweep_lent": "Sweeps", "read_lent": "Reads",
+    "row": "rowPart", "row_told": "rowCheck",
+    "desk_open_lent": "Opens", "desk_judge_lent": "Judges", "desk_sweep_lent": "Sweeps", "desk_read_lent": "Reads",
+    "desk_close_lent": "Closes", "desk_row": "ShowsRow", "desk_sizes": "recordLength",
+    "list": "listing",
+}
+
+# The starred cases of document 01's "Figures to agree on".
+STARRED = {
+    "log-of-1", "log-of-2^40", "log-of-3", "weight-of-2^18", "weight-of-2^46", "F-accepted", "F-p", "F-q", "F-g", "F-own", "F-matrix",
+    "F-right-hand", "zero-residues", "zero-residues-pass", "residue-at-the-bound", "one-tick-passes", "two-ticks-fail", "part-1-fails",
+    "part-1-passes-with-e-2",
+}
+
+
+class Promises(unittest.TestCase):
+    def test_contracts_at_the_border(self) -> None:
+        self.assertEqual({name for _, name in border()}, set(CONTRACTS))
+        for function in border():
+            _, clauses = contract(function)
+            self.assertRegex(clauses, rf"(?s)ensures .*\b{CONTRACTS[function[1]]}\b", function)
+
+    def test_starred_cases(self) -> None:
+        table = text_of("crates/definitions/specs/JointTable.antt").split("pub record JointTable")[1].split("pub jointTable")[0]
+        self.assertEqual(set(re.findall(r"^  pub (\S+) :", table, re.MULTILINE)), STARRED)
+
+    def test_every_call_is_in_the_readme(self) -> None:
+        for module in ("calls", "state"):
+            for name in re.findall(r"^pub fn (\w+)", text_of(f"crates/session/src/{module}.rt"), re.MULTILINE):
+                self.assertIn(f"| `session::{module}::{name}` |", text_of("README.md"))
+
+    def test_the_script_of_calls_has_no_last_turn(self) -> None:
+        self.assertIn("let mut turns = u64::MAX;", text_of("crates/calls/src/main.rt"))
+
+    def test_nothing_is_left_out_of_the_tests(self) -> None:
+        for command in (
+            "python3 -m unittest discover --quiet --start-directory tests", "python3 tests/documents.py", "python3 tests/believed.py",
+            "python3 tests/unused.py", "python3 -m unittest discover --quiet --start-directory reference",
+            "python3 reference vectors --check", "python3 tests/edits_across_crates.py", "rt ci |", "python3 tests/compare_programs.py",
+            "./build", "tests/c/run", "python3 -m unittest discover --quiet --start-directory python/tests",
+        ):
+            self.assertRegex(text_of("test"), rf"(?m)^ *(?:if .*; then )?{re.escape(command)}")
+        for step in ("replay", 'replay "${watched[@]}"', "list", 'list "${watched[@]}"'):
+            self.assertIn(f"\n{step}\n", text_of("tests/c/run"))
+
+
+if __name__ == "__main__":
+    unittest.main()
