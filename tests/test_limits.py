@@ -18,7 +18,7 @@ from reserving_desk.refusals import WORDS
 README = (ROOT / "README.md").read_text()
 HEADER = (ROOT / "include" / "desk.h").read_text()
 SPECS = ROOT / "crates" / "definitions" / "specs"
-DEFINITIONS = "".join((SPECS / f"{name}.antt").read_text() for name in ("Refusals", "Sweep", "Machine"))
+DEFINITIONS = "".join((SPECS / f"{name}.antt").read_text() for name in ("Logarithm", "Refusals", "Sweep", "Machine", "Guarantee"))
 
 # Where the definitions write the numbers that a refusal's words repeat, in the order of the words.
 WRITTEN = {
@@ -113,6 +113,12 @@ class Limits(unittest.TestCase):
         doublings = part // reserving_desk.TICKS_PER_DOUBLING
         years = [2, last + 1, *defined(3)]
         self.assertEqual(numbers_in(said), years + defined(9) + [part, doublings] + defined(5) + defined(23))
+
+    def test_of_what_is_guaranteed(self) -> None:
+        ticks = re.search(r"a doubling has ([\d,]+)\.", README)[1]
+        self.assertEqual({value(ticks), reserving_desk.TICKS_PER_DOUBLING}, {value("ticksPerDoubling")})
+        room = re.search(r"^ +pub room : (\d+) ≤ closeness f$", DEFINITIONS, re.MULTILINE)[1]
+        self.assertEqual(re.findall(r"with e ≥ (\d+),", README), [room])
 
     def test_of_the_reference(self) -> None:
         for number, limits in (

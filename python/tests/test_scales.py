@@ -10,7 +10,7 @@ import paths  # noqa: F401
 
 import paper
 from reserving_desk import TICKS_PER_DOUBLING as T
-from reserving_desk import natural_log, squared_ticks, ticks
+from reserving_desk import natural_log, scales, squared_ticks, ticks
 
 
 class Ticks(unittest.TestCase):
@@ -47,6 +47,11 @@ class SquaredTicks(unittest.TestCase):
                 squared_ticks(wrong)
         with self.assertRaises(OverflowError):
             squared_ticks(inf)
+
+    def test_natural_log_of_two(self) -> None:
+        """By another series, of which less than 2^-139 is left."""
+        other = sum(Fraction(1, k << k) for k in range(1, 140))
+        self.assertLess(abs(scales._natural_log_of_two() - other), Fraction(1, 1 << 128))
 
 
 if __name__ == "__main__":
