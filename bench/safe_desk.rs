@@ -1,4 +1,4 @@
-//! The desk in plain safe Rust, as one would write it from document 01: the baseline that the proved desk is measured against.
+//! The desk in plain safe Rust, as one would write it from the specification: the baseline that the proved desk is measured against.
 //! A session's fields are private, so nothing is tested again; every index is checked by the language.
 #![forbid(unsafe_code)]
 #![allow(dead_code)] // each of the two programs over it uses a part
@@ -38,7 +38,7 @@ fn signed_4(bytes: &[u8], at: usize) -> i64 {
     i64::from(unsigned::<4>(bytes, at) as u32 as i32)
 }
 
-/// Document 01's logarithm. The compiler makes no jump of its branch.
+/// The specification's logarithm. The compiler makes no jump of its branch.
 pub fn logarithm(amount: u64) -> i64 {
     let h = 63 - amount.leading_zeros();
     let mut y = if h <= 31 { amount << (31 - h) } else { amount >> (h - 31) };

@@ -1,7 +1,7 @@
-"""Document 01, "From amounts to the loss": a file's figures, the residues, the test, one step, one sweep.
+"""Specification, "From amounts to the loss", "The figures" and "The test": a file's figures, the residues, the test, one step, one sweep.
 
 The parts of a vector are phi 0..J, then psi 0..J-1: part j is phi j, part J+1+j is psi j. The matrix is the
-precision matrix of Theorem 3.4 of source document 000; the solution for the right-hand side is the posterior
+precision matrix of Theorem 3.4 of the paper; the solution for the right-hand side is the posterior
 mean.
 """
 

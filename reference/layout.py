@@ -1,4 +1,4 @@
-"""Document 01, "The file" and "Turned back by the input": fields, places, checks 1 to 11, rows.
+"""Specification, "The file", "The mean record" and "Refusals": fields, places, checks 1 to 11, rows.
 
 A file and a record are read in two steps: the checks on the head and on the length, after which every
 field has its place, and then the checks on the fields, number by number and in file order within a number.

@@ -1,4 +1,4 @@
-"""The listing program of document 01: opens what it is given, sweeps with n = 4,096, reads and prints."""
+"""The listing program of the specification: opens what it is given, sweeps with n = 4,096, reads and prints."""
 
 from collections.abc import Sequence
 

@@ -1,4 +1,4 @@
-"""Document 01, "From amounts to the loss": the loss itself and the distance, for whole and rational vectors.
+"""Specification, "From amounts to the loss": the loss itself and the distance, for whole and rational vectors.
 
 The desk never works these out; what a passing mean is worth is stated in them, so the tests do. A rational
 vector is u/m; its loss is stated times m^2, its distance to a mean times m^2 and times the sum of D: both are
@@ -25,7 +25,7 @@ class Square(NamedTuple):
 
 
 def squares_of(file: File) -> list[Square]:
-    """The terms of the loss, in the order of document 01."""
+    """The terms of the loss, in the order of the specification."""
     weights, observations = weights_of(file), observations_of(file)
     return [
         *_own_squares(file.last, weights, observations),

@@ -1,4 +1,4 @@
-"""Source document 000: Tables 2, 3, 10 and 11, the file they make, and the reserves by formula (3.7).
+"""The paper: its Tables 2, 3, 10 and 11, the file they make, and the reserves by formula (3.7).
 
 The outside check: the desk's settled mean of Tables 10 and 11 gives the last column of Table 3. The file is
 made in whole numbers; only the reserves are worked out in floats.

@@ -1,4 +1,4 @@
-"""Files to try the desk on: File F of document 01, files at the limits, files hard to settle, drawn files."""
+"""Files to try the desk on: File F of the specification, files at the limits, files hard to settle, drawn files."""
 
 from collections.abc import Callable
 from dataclasses import replace
@@ -14,7 +14,7 @@ CLOSENESSES = (1, 2, 64, 256, 65_536)
 
 
 def file_f(closeness: int = 1) -> File:
-    """File F of document 01; with closeness 2 its other figure."""
+    """File F of the specification; with closeness 2 its other figure."""
     return File(
         last=1,
         closeness=closeness,

@@ -1,10 +1,10 @@
-"""Document 01, "From amounts to the loss": the logarithm of an amount and the weight of a variance.
+"""Specification, "From amounts to the loss": the logarithm of an amount and the weight of a variance.
 
 These are the only two formulas that turn one unit into another: an amount into ticks, a variance in
 squared ticks into a weight. Everything here is in whole numbers.
 """
 
-TICKS_PER_DOUBLING = 1 << 20  # T of document 01: a tick is 1/T of a doubling
+TICKS_PER_DOUBLING = 1 << 20  # T: a tick is 1/T of a doubling
 LOGARITHM_BITS = 20
 
 

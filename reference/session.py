@@ -1,4 +1,4 @@
-"""Document 01, "The session" and "Turned back by the state": the machine, call by call.
+"""Specification, "The calls" and "Refusals": the machine, call by call.
 
 The state is EMPTY, or the accepted file with its figures, the mean and the total. A call takes the state and
 gives its answer with the state afterwards. A state is never changed in place, so a refused call gives back

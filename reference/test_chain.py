@@ -13,7 +13,7 @@ from scales import TICKS_PER_DOUBLING as T
 
 
 class FileF(unittest.TestCase):
-    """The figures of document 01."""
+    """The figures of the specification."""
 
     def setUp(self) -> None:
         self.file = samples.file_f()

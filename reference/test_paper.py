@@ -1,4 +1,4 @@
-"""The outside check: Tables 10 and 11 of source document 000 give the last column of its Table 3."""
+"""The outside check: Tables 10 and 11 of the paper give the last column of its Table 3."""
 
 import unittest
 from fractions import Fraction

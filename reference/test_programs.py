@@ -65,7 +65,7 @@ class LongestListing(unittest.TestCase):
     def test_is_said(self) -> None:
         lines, size = self.longest().count("\n"), len(self.longest())
         for name, said in (
-            ("README.md", f"No listing has more than {size} bytes"),
+            ("docs/CLAIMS.md", f"No listing has more than {size} bytes"),
             ("crates/listing/src/main.rt", f"The longest has {lines} lines and {size} bytes."),
         ):
             self.assertIn(said, " ".join((REFERENCE.parent / name).read_text().split()))

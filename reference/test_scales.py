@@ -1,4 +1,4 @@
-"""The logarithm and the weight against document 01's figures and bounds."""
+"""The logarithm and the weight against the specification's figures and bounds."""
 
 import unittest
 from fractions import Fraction
@@ -22,7 +22,7 @@ def power_bounds(amount: int, bits: int = 128) -> tuple[int, int, int]:
 
 
 def by_the_words(amount: int) -> int:
-    """Document 01's logarithm read once more, with divisions instead of shifts and its bits as a text."""
+    """The specification's logarithm read once more, with divisions instead of shifts and its bits as a text."""
     whole = max(h for h in range(41) if 2**h <= amount)
     y = amount * 2 ** (31 - whole) if whole <= 31 else amount // 2 ** (whole - 31)
     bits = ""

@@ -1,4 +1,4 @@
-"""The traps of document 01: for each, a case where the wrong formula gives something else.
+"""Traps in the formulas: for each, a case where the wrong formula gives something else.
 
 The right value is worked out beside it by hand or from the loss, observation by observation.
 """

@@ -105,7 +105,7 @@ def script_ends() -> dict[str, bytes]:
 
 
 def figures_of_document() -> Iterator[bytes]:
-    """File F: the means that document 01 judges, its two refusals, and its reading."""
+    """File F: the means that the specification judges, its two refusals, and its reading."""
     means = [(10 * T, T, -T), (10 * T + 1, T, -T), (10 * T + 2, T, -T), (10 * T, T + 1, -T)]
     for closeness in (1, 2):
         yield call_open(build_file(samples.file_f(closeness)))

@@ -33,7 +33,7 @@ def drawn_listing_input(rng: Random) -> bytes:
 
 
 def _figures() -> dict[str, bytes]:
-    """File F and the two refusals that document 01 gives."""
+    """File F and the two refusals that the specification gives."""
     f = build_file(samples.file_f())
     return {
         "f": f,

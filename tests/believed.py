@@ -1,8 +1,8 @@
-"""What must be believed to read the contracts at the border is what the README lists, and no more.
+"""What must be believed to read the contracts at the border is what docs/CLAIMS.md lists, and no more.
 
-The border is every function that can be called from outside: the calls of the README's table, the public functions of the session,
+The border is every function that can be called from outside: the calls of the specification's table, the public functions of the session,
 what C calls, and `list`, which makes the page of the listing. From the names in their contracts the imports are followed, module by
-module. Every module of this repository that is reached, and every source that such a contract stands in, must be in the README's
+module. Every module of this repository that is reached, and every source that such a contract stands in, must be in that
 list, whose folders stand for all that is in them, and every entry of the list must be reached. Types that Rattle declares are in its sources, and the rest is the kit's.
 
     python3 tests/believed.py --print
@@ -21,6 +21,7 @@ from resolving import Named, resolved
 
 SESSION = ("crates/session/src/calls.rt", "crates/session/src/lent.rt", "crates/session/src/state.rt")
 LISTING = ("crates/listing/src/main.rt", "list")
+DOCUMENT = "docs/CLAIMS.md"
 LIST = "## What must be believed besides"
 
 WORDS_OF_CONTRACTS = {"requires", "ensures", "λ", "record", "now", "×", "→"}  # which no import gives
@@ -32,7 +33,7 @@ Function = tuple[str, str]  # the file and the name
 
 
 def border() -> list[Function]:
-    table = re.findall(r"^\| `(\w+)::(\w+)::(\w+)` \|", text_of("README.md"), re.MULTILINE)
+    table = re.findall(r"^\| `(\w+)::(\w+)::(\w+)` \|", text_of("docs/SPECIFICATION.md"), re.MULTILINE)
     found = [(f"crates/{crate}/src/{module}.rt", name) for crate, module, name in table]
     found += [(path, name) for path in SESSION for name in re.findall(r"^pub fn (\w+)", text_of(path), re.MULTILINE)]
     for path in files_of("desk", "src/", ".rt"):
@@ -107,12 +108,12 @@ def reached() -> tuple[dict[str, str], list[str]]:
     return through, lost
 
 
-# The README's list.
+# The list.
 
 
 def listed() -> list[str]:
     """The files and folders of crates that the list names."""
-    section = text_of("README.md").split(LIST)[1].split("\n## ")[0]
+    section = text_of(DOCUMENT).split(LIST)[1].split("\n## ")[0]
     found = []
     for first, block, is_code in blocks(section):
         if is_code or not block.lstrip().startswith("- "):
@@ -137,10 +138,10 @@ def complaints() -> Iterator[str]:
     through = {path: f"the contract of {name}" for path, name in border()} | through
     for path, by in through.items():
         if not any(covers(entry, path) for entry in listed()):
-            yield f"{path} is reached through {by}, and the README does not list it as what must be believed"
+            yield f"{path} is reached through {by}, and {DOCUMENT} does not list it as what must be believed"
     for entry in listed():
         if not any(covers(entry, path) for path in through):
-            yield f"README.md: {entry} is listed as what must be believed, and no contract reaches it"
+            yield f"{DOCUMENT}: {entry} is listed as what must be believed, and no contract reaches it"
 
 
 def of_contract(function: Function) -> Iterator[str]:

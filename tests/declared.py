@@ -127,7 +127,9 @@ def c_names() -> frozenset[str]:
 
 
 def package_names() -> set[str]:
-    return {*reserving_desk.__all__, VARIABLE, reserving_desk.__name__}
+    session = reserving_desk.Session
+    methods = {f"{session.__name__}.{name}" for name in vars(session) if not name.startswith("_")}
+    return {*reserving_desk.__all__, *methods, f"{session.__name__}()", VARIABLE, reserving_desk.__name__}
 
 
 def is_printed(text: str) -> bool:

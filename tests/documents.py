@@ -14,17 +14,20 @@ from commands import complaint_of_command, is_command
 from declared import c_names, crates, files, folders, letters, made_by_build, text_of
 from resolving import Named, Span, among, owner, resolved
 
-DOCUMENTS = ("README.md", "docs/CLAIMS.md", "docs/DECISIONS.md", "docs/CALLS.md", "docs/PERFORMANCE.md")
+DOCUMENTS = (
+    "README.md", "CONTRIBUTING.md", "CHANGELOG.md", "python/README.md",
+    *(f"docs/{name}.md" for name in ("SPECIFICATION", "CLAIMS", "DECISIONS", "CALLS", "PERFORMANCE")),
+)
 
 # What a document may show and the repository cannot have.
 EXCEPTIONS = {
     "N passed, 0 failed": "the last line of the kit's gate",
     "requires": "a word of Rattle",
+    "file:": "a line of an edit",
+    "old:": "a line of an edit",
+    "new:": "a line of an edit",
     "&[Ticks; 31]": "a form that the kit does not cover, so no source has it",
     "ValueError": "an exception of Python",
-    "cc": "a tool of the machine",
-    "c++": "a tool of the machine",
-    "valgrind": "a tool of the machine",
     "perf": "a tool of the machine",
     "rustc -O": "a tool of the machine",
     "python3-numpy": "a package of Debian",
@@ -78,16 +81,26 @@ def complaints_of(document: str) -> Iterator[str]:
 
 
 def of_code(first: int, block: str) -> Iterator[tuple[int, str]]:
-    """A block is of commands, or C with names of the header, or what the sample lists, or the package's example, which is run."""
+    """A block is of commands, or C with names of the header, or what the sample or file F lists, or an example of the package.
+
+    tests/snippets.py runs those of the README, and the reference's tests compare the listing of F.
+    """
     lines = [(number, line.strip()) for number, line in enumerate(block.splitlines(), start=first)]
     if is_command(lines[0][1]):
-        found = ((number, complaint_of_command(line) if is_command(line) else f"{line}: no command") for number, line in lines)
+        made = re.findall(r" -o (\S+)$", block, re.MULTILINE)  # by one command for the next
+        asked = [(number, line) for number, line in lines if line not in made]
+        found = ((number, complaint_of_command(line) if is_command(line) else f"{line}: no command") for number, line in asked)
         yield from ((number, said) for number, said in found if said)
     elif lines[0][1].startswith("desk_"):
         names = [(number, name) for number, line in lines for name in re.findall(r"\b(?:desk|DESK)_\w+", line)]
         yield from ((number, f"the header has no {name}") for number, name in names if name not in c_names())
-    elif lines[0][1] not in ("J 9", "from pathlib import Path"):
+    elif lines[0][1] not in ("J 9", "J 1") and not is_example(block):
         yield first, f"{lines[0][1]}: code that nothing tries"
+
+
+def is_example(block: str) -> bool:
+    """Of the package: python/tests runs it, and compares what it prints with its comments."""
+    return bool(re.search(r"^ +from reserving_desk import", block, re.MULTILINE))
 
 
 def of_text(document: str, first: int, block: str) -> Iterator[tuple[int, str]]:

@@ -1,5 +1,5 @@
-"""Limits and refusals are those of crates/definitions, wherever else they are written: in the README's tables, in the header, in
-the package and in the reference. Each is read from its file, so that a number changed in one place alone shows."""
+"""Limits and refusals are those of crates/definitions, wherever else they are written: in the specification's tables, in the
+README, in the header, in the package and in the reference. Each is read from its file, so that a number changed in one place alone shows."""
 
 import re
 import sys
@@ -16,6 +16,7 @@ from reserving_desk import layout as package_layout
 from reserving_desk.refusals import WORDS
 
 README = (ROOT / "README.md").read_text()
+SPECIFICATION = (ROOT / "docs" / "SPECIFICATION.md").read_text()
 HEADER = (ROOT / "include" / "desk.h").read_text()
 SPECS = ROOT / "crates" / "definitions" / "specs"
 DEFINITIONS = "".join((SPECS / f"{name}.antt").read_text() for name in ("Logarithm", "Refusals", "Sweep", "Machine", "Guarantee"))
@@ -30,7 +31,6 @@ WRITTEN = {
     7: (r"^goodPriorVariance v = within \((.+?)\) \((.+?)\) v",),
     8: (r"^goodPart z = leb \(natAbs z\) (?P<size>.+)",),
     9: (r"^goodAmount a = within (.+?) (.+?) a$",),
-    10: (r"^check10 s = unless \(eqb \(paid s (.+?) \(lastYear s\)\)",),
     11: (r"^goodPart z = leb \(natAbs z\) (?P<size>.+)",),
     12: (r"\(within (.+?) (.+?) n\)\) .* \(refused 12 0\)",),
     14: (r"unless \(leb channel (.+?)\) 14 ",),
@@ -58,7 +58,7 @@ def defined(number: int) -> list[int]:
 
 
 def places() -> dict[int, str]:
-    """Every number that the definitions refuse with, and its place in the README's words."""
+    """Every number that the definitions refuse with, and its place in the specification's words."""
     constant = re.findall(r"\) (\d+) (\d+)(?: then|$)", DEFINITIONS, re.MULTILINE)
     constant += re.findall(r"\brefused (\d+) (\d+)", DEFINITIONS) + re.findall(r"\) (\d+) \(λ k\. (\d+)\)", DEFINITIONS)
     of_fields = re.findall(r"= fields .* (\d+) \(?\w+At\b|then fields .* (\d+) partAt", DEFINITIONS)
@@ -69,7 +69,7 @@ def places() -> dict[int, str]:
 
 
 def numbers_in(words: str) -> list[int]:
-    return [value(text) for text in re.findall(r"−?\d[\d,]*\d(?:\^\d+)?|−?\d(?:\^\d+)?", words)]
+    return [value(text) for text in re.findall(r"[−-]?\d[\d,]*\d(?:\^\d+)?|[−-]?\d(?:\^\d+)?", words)]
 
 
 def listed(text: str) -> list[int]:
@@ -79,34 +79,50 @@ def listed(text: str) -> list[int]:
 
 
 def table_of_numbers() -> dict[int, tuple[str, str]]:
-    rows = re.findall(r"^\| (\d+) \| (.*) \| (.*) \|$", README, re.MULTILINE)
+    section = SPECIFICATION.split("## Refusals")[1].split("\n## ")[0]
+    rows = re.findall(r"^\| (\d+) \| (.*) \| (.*) \|$", section, re.MULTILINE)
     return {int(number): (meaning, place) for number, meaning, place in rows}
 
 
 class Refusals(unittest.TestCase):
     maxDiff = None
 
-    def test_the_package_has_the_words_of_the_readme(self) -> None:
+    def test_the_package_has_the_words_of_the_specification(self) -> None:
         self.assertEqual(WORDS, {number: meaning for number, (meaning, _) in table_of_numbers().items()})
 
-    def test_numbers_and_places_of_the_readme_are_the_definitions(self) -> None:
+    def test_numbers_and_places_are_the_definitions(self) -> None:
         self.assertEqual({number: place for number, (_, place) in table_of_numbers().items()}, places())
 
     def test_limits_in_the_words_are_the_definitions(self) -> None:
         for number, words in WORDS.items():
-            self.assertEqual(numbers_in(words), defined(number), f"{number}: {words}")
+            wanted = list(range(defined(number)[0] + 1)) if number == 14 else defined(number)  # whose words name each channel
+            self.assertEqual(numbers_in(words), wanted, f"{number}: {words}")
 
     def test_each_call_may_refuse_with_the_same_numbers(self) -> None:
-        rows = re.findall(r"^\| `\w+::\w+::(\w+)` \|.*\| ([\d, to]+) \|$", README, re.MULTILINE)
-        readme = {call.removesuffix("_told"): listed(numbers) for call, numbers in rows}
+        rows = re.findall(r"^\| `\w+::\w+::(\w+)` \|.*\| ([\d, to]+) \|$", SPECIFICATION, re.MULTILINE)
+        wanted = {call.removesuffix("_told"): listed(numbers) for call, numbers in rows}
         comments = re.findall(r"May be refused with ((?:(?!\*/).)*)\*/\n(?:static inline )?\w+ desk_(\w+)\(", HEADER, re.DOTALL)
-        self.assertEqual({call: listed(numbers) for numbers, call in comments}, readme)
-        calls = {call: getattr(reserving_desk.Session, "read_into" if call == "read" else call) for call in readme}
+        self.assertEqual({call: listed(numbers) for numbers, call in comments}, wanted)
+        calls = {call: getattr(reserving_desk.Session, "read_into" if call == "read" else call) for call in wanted}
         told = {call: listed(re.search(r"Refused with (.*)\.", method.__doc__)[1]) for call, method in calls.items()}
-        self.assertEqual(told, readme)
+        self.assertEqual(told, wanted)
 
 
 class Limits(unittest.TestCase):
+    def test_of_the_fields_in_the_specification(self) -> None:
+        """The last column of the tables of a file and of a record, row by row."""
+        file, record = (SPECIFICATION.split(name)[1].split("\n\n")[2] for name in ("## The file", "## The mean record"))
+        allowed = re.findall(r"\| (1|[^|]+ to [^|]+) \|$", f"{file}\n{record}", re.MULTILINE)
+        self.assertEqual([numbers_in(row) for row in allowed], [defined(number) for number in (2, 3, 5, 6, 8, 7, 9, 9, 2, 11)])
+
+    def test_of_the_specification(self) -> None:
+        rows = re.findall(r"^\| ([^|]+) \| ([^|]+) \|[^|]*\|$", SPECIFICATION.split("## Limits")[1].split("\n## ")[0], re.MULTILINE)
+        told = {name: numbers_in(limit) for name, limit in rows if numbers_in(limit)}
+        self.assertEqual(told, {
+            "J": defined(3), "amount": defined(9), "σ², τ²": defined(6), "prior variance": defined(7),
+            "prior mean, part of a mean": defined(8), "closeness": defined(5), "sweeps of an open file": defined(23),
+        })
+
     def test_of_the_readme(self) -> None:
         said = re.search(r"^## Limits\n\n(.*?)\. The desk estimates", README, re.MULTILINE | re.DOTALL)[1]
         last, part = value("yearLimit"), value("partLimit")
@@ -118,7 +134,8 @@ class Limits(unittest.TestCase):
         ticks = re.search(r"a doubling has ([\d,]+)\.", README)[1]
         self.assertEqual({value(ticks), reserving_desk.TICKS_PER_DOUBLING}, {value("ticksPerDoubling")})
         room = re.search(r"^ +pub room : (\d+) ≤ closeness f$", DEFINITIONS, re.MULTILINE)[1]
-        self.assertEqual(re.findall(r"with e ≥ (\d+),", README), [room])
+        for text in (README, SPECIFICATION):
+            self.assertEqual(re.findall(r"with e ≥ (\d+),", text), [room])
 
     def test_of_the_reference(self) -> None:
         for number, limits in (

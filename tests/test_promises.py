@@ -16,7 +16,7 @@ CONTRACTS = {
     "list": "listing",
 }
 
-# The starred cases of document 01's "Figures to agree on".
+# The examples that document 01 marks with a star ("Figures to agree on").
 STARRED = {
     "log-of-1", "log-of-2^40", "log-of-3", "weight-of-2^18", "weight-of-2^46", "F-accepted", "F-p", "F-q", "F-g", "F-own", "F-matrix",
     "F-right-hand", "zero-residues", "zero-residues-pass", "residue-at-the-bound", "one-tick-passes", "two-ticks-fail", "part-1-fails",
@@ -35,10 +35,10 @@ class Promises(unittest.TestCase):
         table = text_of("crates/definitions/specs/JointTable.antt").split("pub record JointTable")[1].split("pub jointTable")[0]
         self.assertEqual(set(re.findall(r"^  pub (\S+) :", table, re.MULTILINE)), STARRED)
 
-    def test_every_call_is_in_the_readme(self) -> None:
+    def test_every_call_is_in_the_specification(self) -> None:
         for module in ("calls", "state"):
             for name in re.findall(r"^pub fn (\w+)", text_of(f"crates/session/src/{module}.rt"), re.MULTILINE):
-                self.assertIn(f"| `session::{module}::{name}` |", text_of("README.md"))
+                self.assertIn(f"| `session::{module}::{name}` |", text_of("docs/SPECIFICATION.md"))
 
     def test_the_script_of_calls_has_no_last_turn(self) -> None:
         self.assertIn("let mut turns = u64::MAX;", text_of("crates/calls/src/main.rt"))

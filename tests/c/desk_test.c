@@ -1,5 +1,5 @@
 /* The C interface, call by call: answers, numbers and places of refusals, what a refusal leaves unchanged, null with length 0,
- * sizes, and sessions of arbitrary bytes. Expected numbers are document 01's; those of the sample and of the file that never
+ * sizes, and sessions of arbitrary bytes. Expected numbers are the specification's; those of the sample and of the file that never
  * settles are the reference's. Arguments: the sample's file and its listing. */
 #include "support.h"
 

@@ -1,5 +1,5 @@
 // The arithmetic of the desk in 64 bits: residues of a mean, the test, one step, one sweep, the sweeps of a call. Each equals
-// document 01's definition of the same name in `definitions`, and no sum wraps where the figures fit (`specs/Fitting.antt`).
+// the specification's definition of the same name in `definitions`, and no sum wraps where the figures fit (`specs/Fitting.antt`).
 pub mod arrays;
 pub mod judge;
 pub mod residues;

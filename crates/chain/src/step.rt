@@ -51,8 +51,8 @@ fn follow(last: usize, matrix: &[i64; 961], residues: &mut [i64; 31], k: usize, 
     }
 }
 
-// The step of part k, by document 01's "Sweep". Half of A_kk is rounded down before the residue is taken from it: that gives the same
-// change, and twice a residue, which 64 bits do not hold, is never formed.
+// The step of part k, by the specification's "The calls". Half of A_kk is rounded down before the residue is taken from it: that gives
+// the same change, and twice a residue, which 64 bits do not hold, is never formed.
 fn step(last: usize, matrix: &[i64; 961], working: Working, k: usize) -> Working
     requires { ⌜ Steps last (now matrix) working k ⌝ }
     ensures { λ r. ⌜ Stepped last (now (matrix .entry)) working k r ⌝ }

@@ -1,4 +1,4 @@
--- The starred cases of document 01's "Figures to agree on", together, computed from the definitions.
+-- The specification's examples that document 01 marks with a star ("Figures to agree on"), together, computed from the definitions.
 use Prim.Native.Nat.{ℕ, _+_, _^_}
 use mathlib.Core.Path.{_≡_, refl}
 use mathlib.Core.Bool.{true}

@@ -1,4 +1,4 @@
--- Document 01, "The file": big-endian fields, their places, and the mean record.
+-- Specification, "The file" and "The mean record": big-endian fields and their places.
 use Prim.Native.Nat.{ℕ, zero, suc, _+_, _*_, _-_, _/_, _%_, _^_}
 use mathlib.Core.Bool.{cond}
 use mathlib.Core.List.{List, [], _∷_, _++_}

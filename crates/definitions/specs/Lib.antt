@@ -1,4 +1,4 @@
--- Document 01 as definitions, section by section and in its order. What must be believed of this product stands here and in
+-- The specification as definitions, section by section and in its order. What must be believed of this product stands here and in
 -- the contracts that cite it; what follows from it is proved elsewhere.
 --   Logarithm      the logarithm of an amount, in ticks
 --   Weight         the weight of a variance

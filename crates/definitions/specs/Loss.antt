@@ -1,4 +1,4 @@
--- Document 01, "The loss of a vector (Φ, Ψ)". A vector is its parts, Φ_0..Φ_J and then Ψ_0..Ψ_(J−1).
+-- Specification, "From amounts to the loss": the loss of a vector. A vector is its parts, Φ_0..Φ_J and then Ψ_0..Ψ_(J−1).
 use Prim.Native.Nat.{ℕ, _+_, _-_}
 use lib.IntN.{ℤ, pos, _+ℤ_, _-ℤ_, _*ℤ_}
 use Rattle.integers.specs.Summation.{sum}

@@ -1,4 +1,4 @@
--- Document 01, "The session", with the refusals of the input and of the state in their orders: for every state and call the answer,
+-- Specification, "The calls" and "Refusals", in their orders: for every state and call the answer,
 -- and the state and the lent buffer afterwards. A refused call leaves both as they were.
 use Prim.Native.Nat.{ℕ}
 use mathlib.Core.Bool.{Bool, true, false, not, cond}
@@ -55,7 +55,7 @@ abbrev pub refusedOr : Check → Answer → Answer
 refusedOr clear a = a
 refusedOr (refuses number place) a = refused number place
 
--- Nothing, or an open file with its mean and how many sweeps were run. Document 01's machine keeps the file itself; a session keeps
+-- Nothing, or an open file with its mean and how many sweeps were run. The specification's machine keeps the file itself; a session keeps
 -- its figures.
 pub data State (X : Type 0) : Type 0 where
   empty : State X
@@ -140,7 +140,7 @@ module _ (X : Type 0) (keep : Bytes → X) (figures : X → Figures) where
   outcomes st [] = []
   outcomes st (call ∷ calls) = outcome st call ∷ outcomes (outcome st call .state) calls
 
--- document 01's session machine
+-- the specification's session machine
 abbrev pub machine : State Bytes → Call → Outcome Bytes
 machine = outcome Bytes (λ f. f) figuresOf
 

@@ -1,5 +1,5 @@
--- Document 01, "Own weight D of a part", "Matrix A", "Right-hand side", the residue and the test: Theorem 3.4 of source document
--- 000 on rounded weights, the last sum of b_j as its proof has it.
+-- Specification, "The figures" and "The test": own weight D, matrix A, right-hand side, residue and test. It is Theorem 3.4 of the
+-- paper on rounded weights, the last sum of b_j as its proof has it.
 use Prim.Native.Nat.{ℕ, zero, suc, _+_, _*_, _-_, min}
 use mathlib.Core.Bool.{Bool, true, false, cond}
 use mathlib.Core.List.{List, []}

@@ -1,4 +1,4 @@
--- Document 01, "From amounts to the loss": the weights and the observations of a file, in ticks.
+-- Specification, "From amounts to the loss": the weights and the observations of a file, in ticks.
 use Prim.Native.Nat.{ℕ, zero, suc, _+_, _-_}
 use lib.IntN.{ℤ, pos, _-ℤ_}
 use Rattle.integers.specs.Summation.{total}

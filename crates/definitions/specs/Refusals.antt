@@ -1,4 +1,4 @@
--- Document 01, "Turned back by the input": the checks one after another, each over its fields in their order. A check answers
+-- Specification, "Refusals": the checks of the input, one after another, each over its fields in their order. A check answers
 -- `clear`, or a number and the place of the field that is refused, which is 0 where none is to blame.
 use Prim.Native.Nat.{ℕ, zero, suc, _*_, _^_}
 use mathlib.Core.Bool.{Bool, true, false, _&&_}

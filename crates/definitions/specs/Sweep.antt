@@ -1,4 +1,4 @@
--- Document 01, "Sweep": one step of one part, one sweep, the sweeps of a call.
+-- Specification, "The calls": one step of one part, one sweep, the sweeps of a call.
 use Prim.Native.Nat.{ℕ, zero, suc, _*_}
 use mathlib.Core.Bool.{cond, _||_}
 use mathlib.Core.List.{List}

@@ -1,4 +1,4 @@
--- Document 01, "Weight of a variance v".
+-- Specification, "From amounts to the loss": the weight of a variance.
 use Prim.Native.Nat.{ℕ, _+_, _*_, _/_, _^_}
 
 -- 2^46 / v to the nearest, halves up; of a variance of 0 it is 0

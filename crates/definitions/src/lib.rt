@@ -1,1 +1,1 @@
-// Document 01 as definitions. There is no code here: see specs/.
+// The specification as definitions. There is no code here: see specs/.

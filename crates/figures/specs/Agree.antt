@@ -1,4 +1,4 @@
--- The arrays of a file's weights and logarithms give document 01's own weights, matrix and right-hand side.
+-- The arrays of a file's weights and logarithms give the specification's own weights, matrix and right-hand side.
 use Prim.Native.Nat.{ℕ, zero, suc, _+_, _*_, _-_, _≤_, _<_, min}
 use mathlib.Core.Path.{_≡_, sym, ap, ap₂, subst, _∙_}
 use mathlib.Core.List.{List}

@@ -1,4 +1,4 @@
--- From an accepted file: what each function asks holds, and the figures that are gathered are document 01's.
+-- From an accepted file: what each function asks holds, and the figures that are gathered are the specification's.
 use Prim.Native.Nat.{ℕ, _-_, _^_, _≤_, _<_}
 use mathlib.Core.Path.{_≡_, _∙_}
 use mathlib.Core.List.{List}

@@ -1,5 +1,5 @@
 // The figures of an accepted file, each computed once: weights, logarithms, own weights, the precision matrix and the
-// right-hand side. They equal document 01's.
+// right-hand side. They equal the specification's.
 ghost use mathlib.Core.Path.{_≡_};
 ghost use Rattle.chain.specs.Arrays.{figuresAt, figuresOf};
 ghost use Rattle.definitions.specs.Layout.{lastYear, closeness};

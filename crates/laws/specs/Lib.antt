@@ -6,9 +6,9 @@
 --   Accepted          what an accepted file holds, field by field
 --   Ranks             parts by index; the matrix by ranks and signs
 --   Quadratic         a loss of quadratics and combinations: matrix, right-hand side, residue, expansion around a mean
---   PrecisionMatrix   document 01's matrix, right-hand side and residue are those of such a loss
---   LossForm          and document 01's loss is that loss
---   Theorem34         residue by the matrix = residue observation by observation; the expansion of the loss, in document 01's terms
+--   PrecisionMatrix   the specification's matrix, right-hand side and residue are those of such a loss
+--   LossForm          and the specification's loss is that loss
+--   Theorem34         residue by the matrix = residue observation by observation; the expansion of the loss, in the specification's terms
 --   FormGuarantee     nearly least, near, strictly least, for such a loss
 --   Rounding          a mean within half a tick of a zero-residue vector has small residues
 --   Judged            passed exactly if every |residue| ≤ e·D

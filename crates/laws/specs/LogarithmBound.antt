@@ -1,4 +1,4 @@
--- Document 01's claim about the logarithm: 2^L ≤ a^T < 2^(L+2). It holds for any number k of squarings up to 28, T being 2^k.
+-- The specification's claim about the logarithm: 2^L ≤ a^T < 2^(L+2). It holds for any number k of squarings up to 28, T being 2^k.
 --
 -- After each squaring y and the bits l so far bracket the power p of the amount: 2^l·y ≤ p·N, and p·N·N^c ≤ 2^l·y·(N + 1)^c, where
 -- N is 2^31 and c counts the roundings so far, of which a squaring doubles those before it and adds one.
@@ -226,6 +226,6 @@ logIn-at-most k a b few one small short =
     power-of-power b (suc n) =
         pow-suc (2 ^ b) n ∙ ap (λ x. x * 2 ^ b) (power-of-power b n) ∙ sym (pow-add 2 (b * n) b) ∙ ap (λ n. 2 ^ n) (sym (mul-suc b n))
 
--- document 01's bound, with its T
+-- the specification's bound, with its T
 pub logarithm-bound : (a : ℕ) → 1 ≤ a → a < 2 ^ 64 → LogarithmBound a ticksPerDoubling (logarithm a)
 logarithm-bound a one small = rw (logarithm-run a) (logIn-bound squarings a (omega arith) one small)

@@ -1,4 +1,4 @@
--- Document 01's loss, observation by observation, is the loss of its `Form`.
+-- The specification's loss, observation by observation, is the loss of its `Form`.
 use Prim.Native.Nat.{ℕ, suc, _+_, _*_, _-_, _<_}
 use mathlib.Core.Path.{_≡_, sym, ap, ap₂, _∙_}
 use mathlib.Core.List.{[], _∷_}

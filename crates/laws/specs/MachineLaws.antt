@@ -1,4 +1,4 @@
--- The session machine of document 01: it runs on a file's figures alone, and every state that a list of calls reaches from the empty
+-- The session machine of the specification: it runs on a file's figures alone, and every state that a list of calls reaches from the empty
 -- one is empty, or an accepted file with a mean inside the limits and a total of at most 4,096.
 use Prim.Native.Nat.{ℕ, zero, suc, _≤_, _<_, zero-le}
 use mathlib.Core.Path.{_≡_, refl, sym, ap, ap₂, _∙_}
@@ -140,7 +140,7 @@ good-after (call ∷ calls) st g = good-after calls (machine st call .state) (go
 pub reached-good : (calls : List Call) → Good (after empty calls)
 reached-good calls = good-after calls empty tt
 
--- every list of calls gives the machine on figures the answers and buffers of document 01's machine
+-- every list of calls gives the machine on figures the answers and buffers of the specification's machine
 pub outcomes-on-figures : (calls : List Call) (st : State Bytes)
     → outcomes Figures figuresOf (λ F. F) (heldState st) calls ≡ map heldOutcome (outcomes Bytes (λ f. f) figuresOf st calls)
 unfolding outcomes

@@ -1,4 +1,4 @@
--- Theorem 3.4 of source document 000 on rounded weights: document 01's loss is a `Form`, and its matrix, right-hand side and residue
+-- Theorem 3.4 of the paper on rounded weights: the specification's loss is a `Form`, and its matrix, right-hand side and residue
 -- are that form's, so that they are exactly the coefficients of the loss.
 use Prim.Native.Nat.{ℕ, _+_, _-_, _≤_, _<_, min}
 use mathlib.Core.Path.{_≡_, sym, ap, ap₂, _∙_}

@@ -1,5 +1,5 @@
 -- A loss that is made of a quadratic of each part and of weighted squares of combinations of the parts, with its matrix, its
--- right-hand side and its expansion around a mean. The loss of document 01 is one (`PrecisionMatrix`); nothing here counts
+-- right-hand side and its expansion around a mean. The loss of the specification is one (`PrecisionMatrix`); nothing here counts
 -- observations, so that a loss with fewer of them, or with priors of no weight, is one too.
 use Prim.Native.Nat.{ℕ, _<_}
 use mathlib.Core.Path.{_≡_, sym, ap, ap₂, _∙_}

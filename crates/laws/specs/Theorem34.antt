@@ -1,4 +1,4 @@
--- Theorem 3.4 of source document 000, on rounded weights and in document 01's terms: for every vector the residue by the matrix is
+-- Theorem 3.4 of the paper, on rounded weights and in the specification's terms: for every vector the residue by the matrix is
 -- the residue observation by observation, and the loss of u/m expands around a mean with that residue and matrix as its coefficients.
 use Prim.Native.Nat.{ℕ, _+_, _*_, _-_, _<_}
 use mathlib.Core.Path.{_≡_, sym, ap, ap₂, _∙_}

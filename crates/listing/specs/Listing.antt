@@ -1,4 +1,4 @@
--- Document 01, "The listing program": what it prints for the bytes on its standard input, by the answers of the session machine.
+-- Specification, "The calls": what the listing program prints for the bytes on its standard input, by the answers of the session machine.
 use Prim.Native.Nat.{ℕ, _+_}
 use mathlib.Core.Bool.{cond}
 use mathlib.Core.List.{List, [], _∷_, _++_}

@@ -1,4 +1,4 @@
-// The four units of document 01, and the two formulas that turn one into another. No two of them are ever added.
+// The four units of the specification ("Words and units"), and the two formulas that turn one into another. No two of them are ever added.
 ghost use mathlib.Core.Path.{_≡_};
 ghost use Prim.Native.Nat.{_<_, _^_};
 ghost use lib.IntN.{pos};
