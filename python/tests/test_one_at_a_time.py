@@ -27,6 +27,7 @@ EXAMPLES: dict[str, Callable[[Session], object]] = {
     "sweep": lambda desk: desk.sweep(1),
     "read": lambda desk: desk.read(),
     "read_into": lambda desk: desk.read_into(bytearray(40)),
+    "figures": lambda desk: desk.figures(),
     "row": lambda desk: desk.row(FILE, 0, 0),
     "close": lambda desk: desk.close(),
     "__enter__": lambda desk: desk.__enter__(),
