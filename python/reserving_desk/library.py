@@ -18,15 +18,15 @@ VARIABLE = "RESERVING_DESK_LIBRARY"
 IN_THE_PACKAGE = Path(__file__).resolve().with_name("libdesk.so")
 IN_THE_CHECKOUT = Path(__file__).resolve().parents[2] / "target" / "lib" / "libdesk.so"
 
-PARTS = 31  # at most: 2J+1 with J = 15
+ROW_LENGTH = 31  # of the matrix, as the library keeps it
 
 # The fields of a session, in the order in which they are lent. All zero is the empty session.
 SESSION_FIELDS: dict[str, type[Array[Any]]] = {
     "held": c_uint64 * 3,
-    "own": c_uint64 * PARTS,
-    "matrix": c_int64 * PARTS**2,
-    "right_hand": c_int64 * PARTS,
-    "mean": c_int64 * PARTS,
+    "own": c_uint64 * 31,
+    "matrix": c_int64 * 961,
+    "right_hand": c_int64 * 31,
+    "mean": c_int64 * 31,
 }
 
 
@@ -49,11 +49,11 @@ class Shown(Structure):
 
 
 class System(Structure):
-    """Row k, column l of the matrix stands at 31k + l; whatever is outside the parts 0..2J is 0."""
+    """The figures of the open file: row k, column l of the matrix at 31·k + l."""
 
     _fields_ = [
-        ("refusal", Refusal), ("last", c_uint64), ("closeness", c_uint64), ("own", c_uint64 * PARTS), ("matrix", c_int64 * PARTS**2),
-        ("right_hand", c_int64 * PARTS),
+        ("refusal", Refusal), ("last", c_uint64), ("closeness", c_uint64),
+        ("own", c_uint64 * 31), ("matrix", c_int64 * 961), ("right_hand", c_int64 * 31),
     ]
 
 

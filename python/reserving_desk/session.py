@@ -11,7 +11,7 @@ from .answers import Figures, Judgement, Sweeping
 from .arguments import BytesLike, lent_bytes, not_negative, whole, writable_view
 from .details import refused_file, refused_read, refused_record, refused_row, refused_state, refused_sweep
 from .layout import AMOUNT, LONGEST_RECORD, MOST_SWEEPS, Mean, mean_of
-from .library import PARTS, SESSION_FIELDS, library_path, load
+from .library import ROW_LENGTH, SESSION_FIELDS, library_path, load
 
 LARGEST_NUMBER = (1 << 64) - 1  # that the library can be handed
 
@@ -92,7 +92,7 @@ class Session:
         if system.refusal.number:
             raise refused_state(system.refusal)
         parts = 2 * system.last + 1
-        rows = (system.matrix[row * PARTS:row * PARTS + parts] for row in range(parts))
+        rows = (system.matrix[start:start + parts] for start in range(0, parts * ROW_LENGTH, ROW_LENGTH))
         own, right_hand = tuple(system.own[:parts]), tuple(system.right_hand[:parts])
         return Figures(system.last, system.closeness, own, tuple(map(tuple, rows)), right_hand)
 

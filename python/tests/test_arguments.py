@@ -49,9 +49,10 @@ class OfCalls(Named):
     def test_whole_numbers(self) -> None:
         desk = opened()
         for wrong in (*NOT_WHOLE, bool_(1), WithoutRepr(), [1 << 20_000]):  # the last two have no repr
-            for name, call in (
-                ("n", lambda: desk.sweep(wrong)), ("channel", lambda: desk.row(F, wrong, 0)), ("year", lambda: desk.row(F, 0, wrong)),
-            ):
+            calls: dict[str, Callable[[], object]] = {
+                "n": lambda: desk.sweep(wrong), "channel": lambda: desk.row(F, wrong, 0), "year": lambda: desk.row(F, 0, wrong),
+            }
+            for name, call in calls.items():
                 with self.assertRaisesRegex(TypeError, f"^{name} must be a whole number, not "):
                     call()
         self.assert_told(TypeError, "n must be a whole number, not 1.5", desk.sweep, 1.5)
@@ -146,7 +147,8 @@ class OfFiles(Named):
 
     def test_right(self) -> None:
         self.assertEqual(file_of(**self.right), F)
-        self.assertEqual(file_of(**{**self.right, "phi_priors": [array("q", prior) for prior in self.right["phi_priors"]]}), F)
+        self.right["phi_priors"] = [array("q", prior) for prior in self.right["phi_priors"]]
+        self.assertEqual(file_of(**self.right), F)
 
     def test_no_sequences(self) -> None:
         for wrong, shown in ((5, "5"), ("12", "'12'"), (b"12", "b'12'"), ({0: 1}, "{0: 1}"), (None, "None")):
@@ -193,13 +195,15 @@ class OfFiles(Named):
 
 class OfScales(Named):
     def test_no_numbers(self) -> None:
-        for wrong in (None, True, bool_(1), [1], b"1", 1j):
+        no_numbers: tuple[Any, ...] = (None, True, bool_(1), [1], b"1", 1j)
+        for wrong in no_numbers:
             for name, call in (("deviation", squared_ticks), ("natural", ticks)):
                 with self.assertRaisesRegex(TypeError, f"^{name} must be a number, not "):
-                    call(wrong)  # type: ignore[operator]
+                    call(wrong)
 
     def test_no_finite_numbers(self) -> None:
-        for wrong, shown in (("much", "'much'"), ("1/0", "'1/0'"), (nan, "nan"), (inf, "inf"), (-inf, "-inf"), (Decimal("NaN"), "Decimal('NaN')")):
+        for wrong in ("much", "1/0", nan, inf, -inf, Decimal("NaN"), Decimal("Infinity")):
+            shown = repr(wrong)
             self.assert_told(ValueError, f"deviation must be a finite number, not {shown}", squared_ticks, wrong)
             self.assert_told(ValueError, f"natural must be a finite number, not {shown}", ticks, wrong)
         self.assert_told(ValueError, "deviation must be at least 0, not -0.5", squared_ticks, -0.5)

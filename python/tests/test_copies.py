@@ -4,6 +4,7 @@ import copy
 import pickle
 import threading
 import unittest
+from collections.abc import Callable
 from concurrent.futures import ProcessPoolExecutor
 from multiprocessing import get_context
 
@@ -14,7 +15,7 @@ import samples
 from layout import build_file, build_record
 from reserving_desk import Session, Sweeping
 
-COPIES = (copy.copy, copy.deepcopy)
+COPIES: tuple[Callable[[Session], Session], ...] = (copy.copy, copy.deepcopy)
 SLOW = build_file(samples.many_sweeps(3))  # whose mean takes some sweeps
 
 

@@ -1,5 +1,6 @@
 """The figures of an open file: File F's as the specification has them, others as the reference works them out."""
 
+import inspect
 import re
 import textwrap
 import unittest
@@ -81,7 +82,7 @@ class OfOtherFiles(unittest.TestCase):
 class Solved(unittest.TestCase):
     def test_the_example_of_the_docstring(self) -> None:
         """A solution of the system, rounded, passes where closeness is at least 256."""
-        block = re.findall(r"(?:^ {12}.*\n)+", Session.figures.__doc__ or "", re.MULTILINE)[0]
+        block = re.findall(r"(?:^ {4}.*\n)+", inspect.getdoc(Session.figures) or "", re.MULTILINE)[0]
         rng = Random("solved")
         for last in (1, 2, 7):
             file = replace(samples.with_same_end(samples.mild_file(rng, last)), closeness=256)

@@ -66,8 +66,8 @@ class OfAFile(unittest.TestCase):
 
     def test_limits_alone(self) -> None:
         for place, value, width, limits in (
-            (4, 0, 1, "1"), (5, 0, 1, "1 to 15"), (6, 0, 4, "1 to 65,536 ticks"), (10, 0, 8, VARIANCES), (86, 0, 8, "1 to 1,099,511,627,776"),
-            (102, 1 << 12, 8, "4,096, as incurred"),
+            (4, 0, 1, "1"), (5, 0, 1, "1 to 15"), (6, 0, 4, "1 to 65,536 ticks"), (10, 0, 8, VARIANCES),
+            (86, 0, 8, "1 to 1,099,511,627,776"), (102, 1 << 12, 8, "4,096, as incurred"),
         ):
             self.assertEqual(refusal_of(lambda: Session().open(damage.put(F, place, value, width))).limits, limits)
 

@@ -8,6 +8,7 @@ import inspect
 import threading
 import unittest
 from collections.abc import Callable
+from typing import Any
 
 import paths  # noqa: F401
 
@@ -58,8 +59,9 @@ def watched_session(method: str) -> tuple[Session, Watched]:
     desk = Session()
     if method != "open":
         desk.open(FILE)
-    desk._library = Watched(desk)
-    return desk, desk._library
+    watched: Any = Watched(desk)
+    desk._library = watched
+    return desk, watched
 
 
 class OneAtATime(unittest.TestCase):
