@@ -73,8 +73,12 @@ module _ (s : Session) where
   shows-closed h = shows _ (rw (stateOf-empty s h) refl)
 
   -- the arrays that the code makes
-  pub shows-open : Fits s → {D : List ℕ} {A b : List ℤ} → D ≡ ownShown (s .figures .last) (s .figures .own)
-      → A ≡ matrixShown (s .figures .last) (s .figures .matrix) → b ≡ rightHandShown (s .figures .last) (s .figures .«right_hand»)
-      → Shows s (record { answer = Shown; figures = figuresAt (s .figures .last) (s .figures .closeness) D A b })
-  unfolding showsTo figuresOf entryShown
-  shows-open h own matrix right-hand = shows _ (rw (own, matrix, right-hand, stateOf-held s h) refl)
+  module _ (h : Fits s) where
+    abbrev count : ℕ
+    count = parts (s .figures .last)
+
+    pub shows-open : {D : List ℕ} {A b : List ℤ} → D ≡ ownShown count (s .figures .own) → A ≡ matrixShown count (s .figures .matrix)
+        → b ≡ rightHandShown count (s .figures .«right_hand»)
+        → Shows s (record { answer = Shown; figures = figuresAt (s .figures .last) (s .figures .closeness) D A b })
+    unfolding showsTo figuresOf entryShown
+    shows-open own matrix right-hand = shows _ (rw (own, matrix, right-hand, stateOf-held s h) refl)

@@ -9,30 +9,28 @@ use lib.IntN.{ℤ, pos}
 use lib.ListN.{getD, List·getD-eq-default}
 use lib.Seq.{ext-getD}
 use Rattle.definitions.specs.Words.{tabFrom, part}
-use Rattle.definitions.specs.Layout.{parts}
-use Rattle.definitions.specs.Refusals.{yearLimit}
 use Rattle.laws.specs.Judged.{tab-at, tabFrom-length}
-use Rattle.chain.specs.Arrays.{meanOf, cell, cell-at, cell-mirrored, rowsOf}
+use Rattle.chain.specs.Arrays.{cell, cell-at, cell-mirrored}
 use Rattle.figures.specs.Filled.{Filled}
 
-pub record OfParts (last : ℕ) : Type 0 where
-  pub few : last ≤ yearLimit
+pub record OfParts (count : ℕ) : Type 0 where
+  pub few : count ≤ 31
 
-pub record OfEntry (last c : ℕ) : Type 0 where
-  pub few : last ≤ yearLimit
+pub record OfEntry (count c : ℕ) : Type 0 where
+  pub few : count ≤ 31
   pub inside : c < 961
 
 abbrev pub ownShown : ℕ → List ℕ → List ℕ
-ownShown last D = tabFrom 0 31 (λ k. getD (tabFrom 0 (parts last) (λ i. getD D i 0)) k 0)
+ownShown count D = tabFrom 0 31 (λ k. getD (tabFrom 0 count (λ i. getD D i 0)) k 0)
 
 abbrev pub rightHandShown : ℕ → List ℤ → List ℤ
-rightHandShown last b = tabFrom 0 31 (part (meanOf last b))
+rightHandShown count b = tabFrom 0 31 (part (tabFrom 0 count (part b)))
 
 unfoldable pub entryShown : ℕ → List ℤ → ℕ → ℤ
-entryShown last A c = part (getD (rowsOf last A) (c / 31) []) (c % 31)
+entryShown count A c = part (getD (tabFrom 0 count (λ k. tabFrom 0 count (cell A k))) (c / 31) []) (c % 31)
 
 abbrev pub matrixShown : ℕ → List ℤ → List ℤ
-matrixShown last A = tabFrom 0 961 (entryShown last A)
+matrixShown count A = tabFrom 0 961 (entryShown count A)
 
 -- ---- behind the end of a table
 
@@ -61,26 +59,26 @@ filled-whole {size = size} {empty = empty} {f = f} {v = v} h =
 
 -- ---- an entry of the matrix
 
-module _ (last : ℕ) (A : List ℤ) (c : ℕ) where
-  pub entry-below : parts last ≤ c / 31 → entryShown last A c ≡ pos 0
+module _ (count : ℕ) (A : List ℤ) (c : ℕ) where
+  pub entry-below : count ≤ c / 31 → entryShown count A c ≡ pos 0
   unfolding entryShown
-  entry-below h = ap (λ row. part row (c % 31)) (behind (parts last) _ (c / 31) [] h)
+  entry-below h = ap (λ row. part row (c % 31)) (behind count _ (c / 31) [] h)
 
-  module _ (row : c / 31 < parts last) where
-    entry-row : entryShown last A c ≡ part (tabFrom 0 (parts last) (cell A (c / 31))) (c % 31)
+  module _ (row : c / 31 < count) where
+    entry-row : entryShown count A c ≡ part (tabFrom 0 count (cell A (c / 31))) (c % 31)
     unfolding entryShown
-    entry-row = ap (λ l. part l (c % 31)) (tab-at (parts last) (λ k. tabFrom 0 (parts last) (cell A k)) (c / 31) [] row)
+    entry-row = ap (λ l. part l (c % 31)) (tab-at count (λ k. tabFrom 0 count (cell A k)) (c / 31) [] row)
 
-    pub entry-behind : parts last ≤ c % 31 → entryShown last A c ≡ pos 0
-    entry-behind h = entry-row ∙ behind (parts last) _ (c % 31) (pos 0) h
+    pub entry-behind : count ≤ c % 31 → entryShown count A c ≡ pos 0
+    entry-behind h = entry-row ∙ behind count _ (c % 31) (pos 0) h
 
-    module _ (column : c % 31 < parts last) where
-      entry-is : entryShown last A c ≡ cell A (c / 31) (c % 31)
-      entry-is = entry-row ∙ tab-at (parts last) (cell A (c / 31)) (c % 31) (pos 0) column
+    module _ (column : c % 31 < count) where
+      entry-is : entryShown count A c ≡ cell A (c / 31) (c % 31)
+      entry-is = entry-row ∙ tab-at count (cell A (c / 31)) (c % 31) (pos 0) column
 
-      pub entry-held : c % 31 ≤ c / 31 → entryShown last A c ≡ part A (31 * (c / 31) + c % 31)
+      pub entry-held : c % 31 ≤ c / 31 → entryShown count A c ≡ part A (31 * (c / 31) + c % 31)
       entry-held h = entry-is ∙ cell-at A (c / 31) (c % 31) h
 
       -- above the diagonal
-      pub entry-mirrored : c / 31 ≤ c % 31 → entryShown last A c ≡ part A (31 * (c % 31) + c / 31)
+      pub entry-mirrored : c / 31 ≤ c % 31 → entryShown count A c ≡ part A (31 * (c % 31) + c / 31)
       entry-mirrored h = entry-is ∙ cell-mirrored A (c / 31) (c % 31) ∙ cell-at A (c % 31) (c / 31) h

@@ -223,9 +223,10 @@ pub fn figures_lent<'a>(
             figures: nothing,
         };
     }
-    let weights = own_shown(last, own);
-    let entries = matrix_shown(last, matrix);
-    let targets = right_hand_shown(last, right_hand);
+    let count = 2 * last + 1;
+    let weights = own_shown(count, own);
+    let entries = matrix_shown(count, matrix);
+    let targets = right_hand_shown(count, right_hand);
     let shown = Figures {
         last: last,
         closeness: closeness,

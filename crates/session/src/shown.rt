@@ -1,5 +1,5 @@
 // What is shown of an open file's figures. A session counts the entries on and below the diagonal alone, and nothing behind the
-// parts 0..2J: what is shown has both halves of the matrix, and zeros behind the parts.
+// parts 0..2J, `count` of them: what is shown has both halves of the matrix, and zeros behind the parts.
 ghost use mathlib.Core.Path.{_≡_};
 ghost use Rattle.session.specs.Calls.{noFigures};
 ghost use Rattle.session.specs.Shown.{OfParts, OfEntry, ownShown, rightHandShown, entryShown, matrixShown};
@@ -18,11 +18,10 @@ pub fn no_figures() -> Figures
     }
 }
 
-pub fn own_shown(last: usize, own: &[u64; 31]) -> [u64; 31]
-    requires { ⌜ OfParts last ⌝ }
-    ensures { λ r. ⌜ r ≡ ownShown last (now (own .entry)) ⌝ }
+pub fn own_shown(count: usize, own: &[u64; 31]) -> [u64; 31]
+    requires { ⌜ OfParts count ⌝ }
+    ensures { λ r. ⌜ r ≡ ownShown count (now (own .entry)) ⌝ }
 {
-    let count = 2 * last + 1;
     let mut shown = [0u64; 31];
     let mut k = 0usize;
     while k < count {
@@ -33,11 +32,10 @@ pub fn own_shown(last: usize, own: &[u64; 31]) -> [u64; 31]
     shown
 }
 
-pub fn right_hand_shown(last: usize, right_hand: &[i64; 31]) -> [i64; 31]
-    requires { ⌜ OfParts last ⌝ }
-    ensures { λ r. ⌜ r ≡ rightHandShown last (now («right_hand» .entry)) ⌝ }
+pub fn right_hand_shown(count: usize, right_hand: &[i64; 31]) -> [i64; 31]
+    requires { ⌜ OfParts count ⌝ }
+    ensures { λ r. ⌜ r ≡ rightHandShown count (now («right_hand» .entry)) ⌝ }
 {
-    let count = 2 * last + 1;
     let mut shown = [0i64; 31];
     let mut k = 0usize;
     while k < count {
@@ -49,11 +47,10 @@ pub fn right_hand_shown(last: usize, right_hand: &[i64; 31]) -> [i64; 31]
 }
 
 // The entry at c: row c / 31, column c % 31.
-fn entry_shown(last: usize, matrix: &[i64; 961], c: usize) -> i64
-    requires { ⌜ OfEntry last c ⌝ }
-    ensures { λ r. ⌜ r ≡ entryShown last (now (matrix .entry)) c ⌝ }
+fn entry_shown(count: usize, matrix: &[i64; 961], c: usize) -> i64
+    requires { ⌜ OfEntry count c ⌝ }
+    ensures { λ r. ⌜ r ≡ entryShown count (now (matrix .entry)) c ⌝ }
 {
-    let count = 2 * last + 1;
     let k = c / 31;
     let l = c % 31;
     if count <= k {
@@ -68,14 +65,14 @@ fn entry_shown(last: usize, matrix: &[i64; 961], c: usize) -> i64
     matrix[31 * k + l]
 }
 
-pub fn matrix_shown(last: usize, matrix: &[i64; 961]) -> [i64; 961]
-    requires { ⌜ OfParts last ⌝ }
-    ensures { λ r. ⌜ r ≡ matrixShown last (now (matrix .entry)) ⌝ }
+pub fn matrix_shown(count: usize, matrix: &[i64; 961]) -> [i64; 961]
+    requires { ⌜ OfParts count ⌝ }
+    ensures { λ r. ⌜ r ≡ matrixShown count (now (matrix .entry)) ⌝ }
 {
     let mut shown = [0i64; 961];
     let mut c = 0usize;
     while c < 961 {
-        let entry = entry_shown(last, matrix, c);
+        let entry = entry_shown(count, matrix, c);
         shown[c] = entry;
         c += 1;
     }

@@ -7,12 +7,6 @@ use Rattle.session.specs.Shown.{entry-below, entry-behind, entry-held, e
 use Rattle.session.proofs.shown.entry_shown.Statement.{statement}
 use Rattle.session.proofs.shown.entry_shown.Tie as tie
 
-mul-count : tie.Need-mul-count
-mul-count c = search needs
-
-add-count : tie.Need-add-count
-add-count c = search needs
-
 returns : tie.Need-returns
 returns c = sym (entry-below _ _ _ (omega (arith, c .if1 .taken)))
 
@@ -61,8 +55,6 @@ pub entry-shown-spec : {M : Type 1} → statement M
 entry-shown-spec =
     tie.close
     (tie.spec
-    mul-count
-    add-count
     returns
     returns-2
     mul-result

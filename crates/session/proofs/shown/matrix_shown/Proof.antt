@@ -10,10 +10,10 @@ use Rattle.session.proofs.shown.matrix_shown.Statement.{statement}
 use Rattle.session.proofs.shown.matrix_shown.Tie as tie
 
 abbrev Inv-loop : tie.InvT-loop
-Inv-loop last matrix shown₀ c₀ shown c = (c ≤ 961) × Filled 961 c (pos 0) (entryShown last matrix) shown
+Inv-loop count matrix shown₀ c₀ shown c = (c ≤ 961) × Filled 961 c (pos 0) (entryShown count matrix) shown
 
 abbrev μ-loop : tie.MeasureT-loop
-μ-loop last matrix shown₀ c₀ shown c = 961 - c
+μ-loop count matrix shown₀ c₀ shown c = 961 - c
 
 loop-holds : tie.Need-loop-holds Inv-loop μ-loop
 loop-holds c = (omega arith, filled-none 961 (pos 0) _)

@@ -9,16 +9,10 @@ use Rattle.session.proofs.shown.own_shown.Statement.{statement}
 use Rattle.session.proofs.shown.own_shown.Tie as tie
 
 abbrev Inv-loop : tie.InvT-loop
-Inv-loop last own count shown₀ k₀ shown k = (k ≤ count) × Filled 31 k 0 (λ i. getD own i 0) shown
+Inv-loop count own shown₀ k₀ shown k = (k ≤ count) × Filled 31 k 0 (λ i. getD own i 0) shown
 
 abbrev μ-loop : tie.MeasureT-loop
-μ-loop last own count shown₀ k₀ shown k = count - k
-
-mul-count : tie.Need-mul-count Inv-loop μ-loop
-mul-count c = omega (arith, c .pre .few)
-
-add-count : tie.Need-add-count Inv-loop μ-loop
-add-count c = omega (arith, c .pre .few)
+μ-loop count own shown₀ k₀ shown k = count - k
 
 loop-holds : tie.Need-loop-holds Inv-loop μ-loop
 loop-holds c = (omega arith, filled-none 31 0 _)
@@ -53,5 +47,5 @@ returns c =
 
 pub own-shown-spec : {M : Type 1} → statement M
 own-shown-spec = tie.close (tie.spec
-    Inv-loop μ-loop mul-count add-count loop-holds mul-weight element-copy-out-weight mul-shown array-write-shown add-k loop-less
+    Inv-loop μ-loop loop-holds mul-weight element-copy-out-weight mul-shown array-write-shown add-k loop-less
     loop-again returns)

@@ -10,16 +10,10 @@ use Rattle.session.proofs.shown.right_hand_shown.Statement.{statement}
 use Rattle.session.proofs.shown.right_hand_shown.Tie as tie
 
 abbrev Inv-loop : tie.InvT-loop
-Inv-loop last right-hand count shown₀ k₀ shown k = (k ≤ count) × Filled 31 k (pos 0) (part right-hand) shown
+Inv-loop count right-hand shown₀ k₀ shown k = (k ≤ count) × Filled 31 k (pos 0) (part right-hand) shown
 
 abbrev μ-loop : tie.MeasureT-loop
-μ-loop last right-hand count shown₀ k₀ shown k = count - k
-
-mul-count : tie.Need-mul-count Inv-loop μ-loop
-mul-count c = omega (arith, c .pre .few)
-
-add-count : tie.Need-add-count Inv-loop μ-loop
-add-count c = omega (arith, c .pre .few)
+μ-loop count right-hand shown₀ k₀ shown k = count - k
 
 loop-holds : tie.Need-loop-holds Inv-loop μ-loop
 loop-holds c = (omega arith, filled-none 31 (pos 0) _)
@@ -56,5 +50,5 @@ returns c =
 
 pub right-hand-shown-spec : {M : Type 1} → statement M
 right-hand-shown-spec = tie.close (tie.spec
-    Inv-loop μ-loop mul-count add-count loop-holds mul-target element-copy-out-target mul-shown array-set-from-shown add-k loop-less
+    Inv-loop μ-loop loop-holds mul-target element-copy-out-target mul-shown array-set-from-shown add-k loop-less
     loop-again returns)
