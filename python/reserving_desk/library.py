@@ -41,6 +41,15 @@ class Shown(Structure):
     _fields_ = [("refusal", Refusal), ("start", c_uint64), ("length", c_uint64)]
 
 
+class System(Structure):
+    """The figures of the open file: row k, column l of the matrix at 31·k + l."""
+
+    _fields_ = [
+        ("refusal", Refusal), ("last", c_uint64), ("closeness", c_uint64),
+        ("own", c_uint64 * 31), ("matrix", c_int64 * 961), ("right_hand", c_int64 * 31),
+    ]
+
+
 class Sizes(Structure):
     """Of each field of a session how many numbers it holds; of the longest file and record how many bytes."""
 
@@ -56,6 +65,7 @@ FUNCTIONS = {
     "desk_judge_lent": (Judged, SESSION + LENT),
     "desk_sweep_lent": (Swept, SESSION + [c_uint64]),
     "desk_read_lent": (Refusal, SESSION + [POINTER(c_uint8), c_size_t]),
+    "desk_figures_lent": (System, SESSION),
     "desk_row": (Shown, LENT + [c_uint64, c_uint64]),
     "desk_close_lent": (None, SESSION[:1]),
     "desk_sizes": (Sizes, []),
