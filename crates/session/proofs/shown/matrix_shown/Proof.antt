@@ -1,5 +1,5 @@
 -- `shown::matrix_shown` meets its contract. The loop's invariant: the entries passed are those that are shown.
-use Prim.Native.Nat.{_-_, _≤_}
+use Prim.Native.Nat.{_-_, _≤_, _<_}
 use mathlib.Core.Path.{_∙_}
 use native.Mathlib.Omega.{arith}
 use lib.IntN.{pos}
@@ -18,17 +18,20 @@ abbrev μ-loop : tie.MeasureT-loop
 loop-holds : tie.Need-loop-holds Inv-loop μ-loop
 loop-holds c = (omega arith, filled-none 961 (pos 0) _)
 
+room : (c : tie.In-loop Inv-loop μ-loop) → c .before .loop .c < 961
+room c = omega (arith, c .loop-test .taken)
+
 entry-shown-requires : tie.Need-entry-shown-requires Inv-loop μ-loop
-entry-shown-requires c κs = record { few = c .before .before .pre .few; inside = c .loop-test .taken }
+entry-shown-requires c κs = record { few = c .before .before .pre .few; inside = room c }
 
 mul-shown : tie.Need-mul-shown Inv-loop μ-loop
-mul-shown c = omega (arith, c .before .loop-test .taken)
+mul-shown c = omega (arith, room (c .before))
 
 array-set-from-shown : tie.Need-array-set-from-shown Inv-loop μ-loop
-array-set-from-shown c = c .before .loop-test .taken
+array-set-from-shown c = room (c .before)
 
 add-c : tie.Need-add-c Inv-loop μ-loop
-add-c c = omega (arith, c .before .loop-test .taken)
+add-c c = omega (arith, room (c .before))
 
 loop-less : tie.Need-loop-less Inv-loop μ-loop
 loop-less c = omega arith
@@ -37,7 +40,7 @@ loop-again : tie.Need-loop-again Inv-loop μ-loop
 loop-again c =
     let l = c .before in
     let entry = same (c .entry-shown .result) (c .entry-shown .ok) ∙ c .entry-shown .ensures in
-    (omega (arith, l .loop-test .taken), filled-next (l .before .loop .inv .1) (l .loop-test .taken) entry)
+    (omega (arith, room l), filled-next (l .before .loop .inv .1) (room l) entry)
 
 returns : tie.Need-returns Inv-loop μ-loop
 returns c = filled-whole (filled-to (omega (arith, c .loop-test .left)) (c .before .loop .inv .1))
