@@ -8,7 +8,7 @@ from __future__ import annotations
 
 from collections.abc import Iterable, Iterator
 from dataclasses import dataclass
-from enum import Enum
+from enum import Enum, auto
 
 from .arguments import sequence, whole
 
@@ -20,12 +20,12 @@ CHANNELS = ("paid", "incurred")  # by those numbers
 
 
 class Unit(Enum):
-    """What a number counts."""
+    """What a number counts, by which it is told in words: ticks of a logarithm are doublings too, and of a variance they are squared."""
 
-    NUMBER = "itself"
-    TICKS = "ticks"
-    LOGARITHM = "ticks, of which a doubling has 1,048,576"
-    VARIANCE = "squared ticks"
+    NUMBER = auto()
+    TICKS = auto()
+    LOGARITHM = auto()
+    VARIANCE = auto()
 
 
 @dataclass(frozen=True)

@@ -99,7 +99,7 @@ def library_path() -> Path:
 def load(path: Path) -> ctypes.CDLL:
     """The library with its functions declared."""
     if not path.is_file():
-        raise LibraryMissing(f"no library {path}: run ./build in the checkout, or name the library in {VARIABLE}")
+        raise LibraryMissing(f"no library {path}: run ./build in the checkout, install the package anew, or name the library in {VARIABLE}")
     try:
         library = ctypes.CDLL(str(path.resolve()))
         for name, (answer, parameters) in FUNCTIONS.items():

@@ -6,7 +6,7 @@ from decimal import Decimal
 from fractions import Fraction
 from typing import Union
 
-from .arguments import TRUTH_VALUES, shown, whole, wrong_type
+from .arguments import shown, whole, wrong_type
 
 TICKS_PER_DOUBLING = 1 << 20  # T of the specification
 
@@ -44,8 +44,6 @@ def natural_log(count: int) -> float:
 
 
 def _exact(name: str, given: Number) -> Fraction:
-    if type(given).__name__ in TRUTH_VALUES:
-        raise wrong_type(name, "a number", given)
     try:
         # A whole number of numpy's would count in 64 bits, and wrap.
         return Fraction(whole(name, given)) if hasattr(given, "__index__") else Fraction(given)

@@ -1,4 +1,4 @@
-"""A copy of a session is a session of its own, and no session is pickled."""
+"""A copy of a session is a session of its own, and no session is pickled; what the calls answer may be both."""
 
 import copy
 import pickle
@@ -91,6 +91,17 @@ class Pickles(unittest.TestCase):
         with ProcessPoolExecutor(1, get_context("spawn")) as pool:
             with self.assertRaisesRegex(TypeError, "^a session cannot be pickled"):
                 pool.submit(read_of, opened()).result()
+
+
+class Answers(unittest.TestCase):
+    """Plain values, which go anywhere."""
+
+    def test_pickled_and_copied(self) -> None:
+        desk = opened()
+        answers = (desk.judge(build_record((0, 0, 0))), desk.sweep(), desk.read(), desk.figures())
+        for answer in answers:
+            for same in (pickle.loads(pickle.dumps(answer)), copy.copy(answer), copy.deepcopy(answer)):
+                self.assertEqual((type(same), same), (type(answer), answer))
 
 
 if __name__ == "__main__":

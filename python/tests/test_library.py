@@ -26,7 +26,7 @@ class Library(unittest.TestCase):
             self.assertEqual(Path(desk._library._name), Path(copy).resolve())
             self.assertEqual(desk.sweep(), Sweeping(True, 0))
 
-    def test_the_package_s_own_comes_before_the_checkout_s(self) -> None:
+    def test_its_own_comes_before_that_of_the_checkout(self) -> None:
         with tempfile.TemporaryDirectory() as folder:
             own = Path(folder) / "libdesk.so"
             with mock.patch.object(package, "IN_THE_PACKAGE", own), mock.patch.dict(os.environ):
