@@ -67,6 +67,18 @@ typedef struct desk_shown {
     uint64_t length;
 } desk_shown;
 
+/* The figures of the open file: J, the closeness, and the own weights, matrix and right-hand side that a mean is judged by. The
+ * parts are phi 0..J, then psi 0..J-1. The matrix has both of its halves, row k and column l at matrix[k][l]. Numbers outside
+ * the parts 0..2J are 0, and all but the refusal are 0 where refused. */
+typedef struct desk_system {
+    desk_refusal refusal;
+    uint64_t last; /* J */
+    uint64_t closeness;
+    uint64_t own[31];
+    int64_t matrix[31][31];
+    int64_t right_hand[31];
+} desk_system;
+
 /* How many numbers each array of a session holds, and how many bytes the longest file and the longest mean record have. */
 typedef struct desk_counts {
     uint64_t held;
@@ -87,6 +99,8 @@ desk_sweeping desk_sweep_lent(uint64_t held[3], const uint64_t own[31], const in
                               int64_t mean[31], uint64_t n);
 desk_refusal desk_read_lent(const uint64_t held[3], const uint64_t own[31], const int64_t matrix[961],
                             const int64_t right_hand[31], const int64_t mean[31], uint8_t *buffer, size_t length);
+desk_system desk_figures_lent(const uint64_t held[3], const uint64_t own[31], const int64_t matrix[961],
+                              const int64_t right_hand[31], const int64_t mean[31]);
 void desk_close_lent(uint64_t held[3]);
 
 /* Opens a file: the session then holds its figures, the prior means as mean and 0 sweeps.
@@ -111,6 +125,12 @@ static inline desk_sweeping desk_sweep(desk_session *s, uint64_t n) {
  * May be refused with 21, then 24, then 13. */
 static inline desk_refusal desk_read(const desk_session *s, uint8_t *buffer, size_t length) {
     return desk_read_lent(s->held, s->own, s->matrix, s->right_hand, s->mean, buffer, length);
+}
+
+/* Shows the figures of the open file: a mean passes exactly if in each part k the sum of matrix[k][l] times part l, minus
+ * right_hand[k], is at most closeness times own[k] in size. The session is untouched. May be refused with 21. */
+static inline desk_system desk_figures(const desk_session *s) {
+    return desk_figures_lent(s->held, s->own, s->matrix, s->right_hand, s->mean);
 }
 
 /* Shows an accident year's amounts in the paid (channel 0) or incurred (1) block of a file. Needs no session.

@@ -1,13 +1,14 @@
 """The calls as Rattle exports them, as the header declares them and as the package does: the same parameters and answers.
 
 Nothing else holds the three together. A parameter is written `NAME TYPE`, with `const` where the call only reads it; an answer is
-the numbers of its struct, in their order.
+the numbers of its struct, in their order, an array with how many it has.
 """
 
 import re
 import sys
 import unittest
 from ctypes import Structure
+from math import prod
 from pathlib import Path
 
 ROOT = Path(__file__).resolve().parent.parent
@@ -28,8 +29,13 @@ def split(parameters: str) -> list[str]:
 def calls_of_rattle() -> dict[str, Call]:
     found = re.findall(r"pub extern \"C\" fn (\w+)(?:<'a>)?\((.*?)\)(?: -> (\w+))?\n", SOURCES, re.DOTALL)
     structs = dict(re.findall(r"#\[repr\(C\)\]\npub struct (\w+) \{\n(.*?)\}", SOURCES, re.DOTALL))
-    fields = {name: re.findall(r"pub (\w+): (\w+),", body) for name, body in structs.items()}
+    fields = {name: [(field, rattle_kind(kind)) for field, kind in re.findall(r"pub (\w+): ([^,]+),", body)] for name, body in structs.items()}
     return {name: (rattle_parameters(parameters), numbers(answer, fields)) for name, parameters, answer in found}
+
+
+def rattle_kind(kind: str) -> str:
+    """`u64`, or of an array `u64[31]`."""
+    return re.sub(r"\[(\w+); (\d+)\]", r"\1[\2]", kind)
 
 
 def rattle_parameters(parameters: str) -> list[str]:
@@ -61,8 +67,17 @@ def in_rattle(c_text: str) -> str:
 def calls_of_the_header() -> dict[str, Call]:
     found = re.findall(r"^(\w+) (desk_\w+)\(([^)]*)\);", HEADER, re.MULTILINE)
     structs = re.findall(r"typedef struct (desk_\w+) \{\n(.*?)\}", HEADER, re.DOTALL)
-    fields = {name: [(field, kind) for kind, field in re.findall(r"(\w+) (\w+);", in_rattle(body))] for name, body in structs}
+    fields = {name: header_fields(in_rattle(body)) for name, body in structs}
     return {name: (header_parameters(parameters), numbers(answer, fields)) for answer, name, parameters in found}
+
+
+def header_fields(body: str) -> list[tuple[str, str]]:
+    """C lays rows of an array out one behind another: `matrix[31][31]` is one of 961 numbers."""
+    found = []
+    for kind, name, counts in re.findall(r"^ +(\w+) (\w+)((?:\[\d+\])*);", body, re.MULTILINE):
+        sizes = [int(size) for size in re.findall(r"\d+", counts)]
+        found.append((name, f"{kind}[{prod(sizes)}]" if sizes else kind))
+    return found
 
 
 def header_parameters(parameters: str) -> list[str]:
@@ -87,17 +102,19 @@ def ctypes_name(kind: type) -> str:
     target = kind._type_
     if isinstance(target, str):
         return CTYPES[kind.__name__]
-    if hasattr(target, "_length_"):
-        return f"{CTYPES[target._type_.__name__]}[{target._length_}]"
-    return f"{CTYPES[target.__name__]}*"
+    return field_name(target) if hasattr(target, "_length_") else f"{CTYPES[target.__name__]}*"
 
 
 def structure_numbers(answer: type[Structure] | None) -> list[str]:
     found = []
     for name, kind in answer._fields_ if answer else ():
         inside = structure_numbers(kind) if issubclass(kind, Structure) else []
-        found += [f"{name}.{number}" for number in inside] or [f"{name} {CTYPES[kind.__name__]}"]
+        found += [f"{name}.{number}" for number in inside] or [f"{name} {field_name(kind)}"]
     return found
+
+
+def field_name(kind: type) -> str:
+    return f"{CTYPES[kind._type_.__name__]}[{kind._length_}]" if hasattr(kind, "_length_") else CTYPES[kind.__name__]
 
 
 def bare(parameter: str) -> str:
@@ -110,7 +127,7 @@ class Border(unittest.TestCase):
     maxDiff = None
 
     def test_there_are_calls(self) -> None:
-        self.assertGreaterEqual(len(calls_of_rattle()), 7)
+        self.assertGreaterEqual(len(calls_of_rattle()), 8)
         self.assertEqual(len(calls_of_rattle()), SOURCES.count("#[no_mangle]"))
 
     def test_the_header(self) -> None:

@@ -8,11 +8,11 @@ from declared import text_of
 
 # The record that the contract of each function at the border must be, or what its equation must be with.
 CONTRACTS = {
-    "open": "Opens", "judge": "Judges", "sweep": "Sweeps", "read": "Reads", "close": "stateOf", "empty": "stateOf",
-    "open_lent": "Opens", "judge_lent": "Judges", "sweep_lent": "Sweeps", "read_lent": "Reads",
+    "open": "Opens", "judge": "Judges", "sweep": "Sweeps", "read": "Reads", "figures": "Shows", "close": "stateOf", "empty": "stateOf",
+    "open_lent": "Opens", "judge_lent": "Judges", "sweep_lent": "Sweeps", "read_lent": "Reads", "figures_lent": "Shows",
     "row": "rowPart", "row_told": "rowCheck",
     "desk_open_lent": "Opens", "desk_judge_lent": "Judges", "desk_sweep_lent": "Sweeps", "desk_read_lent": "Reads",
-    "desk_close_lent": "Closes", "desk_row": "ShowsRow", "desk_sizes": "recordLength",
+    "desk_figures_lent": "Shows", "desk_close_lent": "Closes", "desk_row": "ShowsRow", "desk_sizes": "recordLength",
     "list": "listing",
 }
 

@@ -1,4 +1,4 @@
-"""The verified reserving desk: the calls of document 01 for Python, over the proved library.
+"""The verified reserving desk: its calls for Python, over the proved library.
 
     from reserving_desk import Session
 
@@ -7,19 +7,23 @@
         if desk.sweep().settled:
             mean = desk.read()
 
-A file is bytes; `file_of` makes one from plain numbers. A call that is refused raises `Refused`, which has document 01's number
-and place, what the number means, and the name of the field. Parts of a mean are ticks: a doubling has 1,048,576.
+A file is bytes; `file_of` makes one from plain numbers. A call that is refused raises `Refused`, which tells the desk's number and
+place, what the number means, the field, the number that stood there and what is allowed. Parts of a mean are ticks: a doubling has
+1,048,576. docs/SPECIFICATION.md says what each call answers.
 """
 
+from .answers import Figures, Judgement, Sweeping
 from .builders import Prior, file_of, record_of
-from .layout import Mean
+from .layout import INCURRED, MOST_SWEEPS, PAID, Mean
 from .library import LibraryMissing, SizesDiffer
 from .refusals import Refused
 from .scales import TICKS_PER_DOUBLING, natural_log, squared_ticks, ticks
-from .session import INCURRED, MOST_SWEEPS, PAID, Judgement, Session, Sweeping
+from .session import Session
+
+__version__ = "1.1.0"
 
 __all__ = [
     "INCURRED", "MOST_SWEEPS", "PAID", "TICKS_PER_DOUBLING",
-    "Judgement", "LibraryMissing", "Mean", "Prior", "Refused", "Session", "SizesDiffer", "Sweeping",
+    "Figures", "Judgement", "LibraryMissing", "Mean", "Prior", "Refused", "Session", "SizesDiffer", "Sweeping",
     "file_of", "natural_log", "record_of", "squared_ticks", "ticks",
 ]

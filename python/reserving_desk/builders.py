@@ -1,16 +1,17 @@
 """Files and mean records from plain numbers.
 
 A builder checks what the bytes can hold, and no more: a number that does not fit its field is a ValueError that names the
-field, while one that fits and is beyond document 01's limits is written, and the desk refuses it.
+field, while one that fits and is beyond the desk's limits is written, and the desk refuses it.
 """
 
 from __future__ import annotations
 
-from collections.abc import Iterable, Sequence
-from operator import index
-from typing import NamedTuple
+from collections.abc import Iterable, Iterator, Sequence
+from typing import Any, NamedTuple
 
+from .arguments import counted, sequence, sequence_of, shown, whole, wrong_type
 from .layout import VERSION, Field, Mean, file_fields, record_fields
+from .wording import number as in_words
 
 Triangle = Sequence[Sequence[int]]  # accident year 0 first; accident year i has columns 0..J-i
 
@@ -34,48 +35,53 @@ def file_of(
 ) -> bytes:
     """The file of two triangles of cumulative amounts; J is the number of accident years less 1.
 
-    Variances are in squared ticks (`squared_ticks`): sigma squared of columns 0..J, tau squared of columns 0..J-1. The priors of
+    Variances are in squared ticks (`squared_ticks`): sigma squared of development years 0..J, tau squared of 0..J-1. The priors of
     phi 0..J and psi 0..J-1 are pairs of mean and variance, as `Prior`.
     """
-    last = len(paid) - 1
+    last = len(sequence("paid", "a sequence of accident years", paid)) - 1
     if last < 0:
-        raise ValueError("paid has no accident year")
-    for name, triangle in (("paid", paid), ("incurred", incurred)):
-        _expect_count(name, "accident years", triangle, last + 1)
-        for year, row in enumerate(triangle):
-            _expect_count(f"{name}, year {year},", "amounts", row, last - year + 1)
-    _expect_count("sigma_squared", "variances", sigma_squared, last + 1)
-    _expect_count("tau_squared", "variances", tau_squared, last)
-    _expect_count("phi_priors", "priors", phi_priors, last + 1)
-    _expect_count("psi_priors", "priors", psi_priors, last)
-    priors = [number for mean, variance in (*phi_priors, *psi_priors) for number in (mean, variance)]
-    amounts = [amount for row in (*paid, *incurred) for amount in row]
-    return _written(file_fields(last), [VERSION, last, closeness, *sigma_squared, *tau_squared, *priors, *amounts])
+        raise ValueError("paid must have accident years, and has none")
+    amounts = (*_amounts("paid", paid, last), *_amounts("incurred", incurred, last))
+    sigma = sequence_of("sigma_squared", "variance", sigma_squared, last + 1)
+    tau = sequence_of("tau_squared", "variance", tau_squared, last)
+    priors = (*_priors("phi_priors", phi_priors, last + 1), *_priors("psi_priors", psi_priors, last))
+    return _written(file_fields(last), [VERSION, last, closeness, *sigma, *tau, *priors, *amounts])
 
 
 def record_of(mean: Mean) -> bytes:
     """The mean record of a mean, whoever found it, for `Session.judge`."""
+    if not isinstance(mean, Mean):
+        raise wrong_type("mean", "a Mean", mean)
     return _written(record_fields(len(mean.psi)), [VERSION, *mean.parts])
 
 
-def _expect_count(name: str, things: str, given: Sequence[object], wanted: int) -> None:
-    if len(given) != wanted:
-        raise ValueError(f"{name} has {len(given)} {things}, not {wanted}")
+def _amounts(name: str, triangle: Any, last: int) -> Iterator[Any]:
+    for year, row in enumerate(sequence_of(name, "accident year", triangle, last + 1)):
+        yield from sequence_of(f"{name} of accident year {year}", "amount", row, last - year + 1)
+
+
+def _priors(name: str, priors: Any, wanted: int) -> Iterator[Any]:
+    """Mean and variance of each, in turn."""
+    pair_wanted = "a pair of mean and variance"
+    for year, prior in enumerate(sequence_of(name, "prior", priors, wanted)):
+        whose = f"{name} of development year {year}"
+        pair = sequence(whose, pair_wanted, prior)
+        if len(pair) != 2:
+            raise ValueError(f"{whose} must be {pair_wanted}, not {shown(prior)}")
+        yield from pair
 
 
 def _written(fields: Iterable[Field], numbers: Sequence[int]) -> bytes:
     """The numbers behind the length word, which counts itself too."""
     length, *others = fields
     body = b"".join(map(_bytes_of, others, numbers))
-    return _bytes_of(length, length.width + len(body)) + body
+    return _bytes_of(length, length.kind.width + len(body)) + body
 
 
-def _bytes_of(field: Field, number: int) -> bytes:
-    try:
-        whole = index(number)
-    except TypeError:
-        raise TypeError(f"{field.name} is a whole number, not {number!r}") from None
-    low, high = field.limits()
-    if not low <= whole <= high:
-        raise ValueError(f"{field.name} is {whole}, and its {field.width} bytes hold {low} to {high}")
-    return whole.to_bytes(field.width, "big", signed=field.signed)
+def _bytes_of(field: Field, given: int) -> bytes:
+    number, kind = whole(field.name, given), field.kind
+    low, high = kind.held()
+    if not low <= number <= high:
+        held = f"from {in_words(low)} to {in_words(high)}, which {counted(kind.width, 'byte')} can hold"
+        raise ValueError(f"{field.name} must be {held}, not {in_words(number)}")
+    return number.to_bytes(kind.width, "big", signed=kind.signed)

@@ -1,20 +1,27 @@
-"""The library that `./build` makes, with its functions declared for ctypes as include/desk.h has them."""
+"""The library that `./build` makes, with its functions declared for ctypes as include/desk.h has them.
+
+An installed package has the library inside; in the checkout it stands in target/lib.
+"""
 
 from __future__ import annotations
 
 import ctypes
 import os
-from ctypes import POINTER, Structure, c_char_p, c_int64, c_size_t, c_uint8, c_uint64, sizeof
+from ctypes import POINTER, Array, Structure, c_char_p, c_int64, c_size_t, c_uint8, c_uint64, sizeof
 from functools import lru_cache
 from pathlib import Path
+from typing import Any, Optional
 
 from .layout import LONGEST_FILE, LONGEST_RECORD
 
 VARIABLE = "RESERVING_DESK_LIBRARY"
+IN_THE_PACKAGE = Path(__file__).resolve().with_name("libdesk.so")
 IN_THE_CHECKOUT = Path(__file__).resolve().parents[2] / "target" / "lib" / "libdesk.so"
 
+ROW_LENGTH = 31  # of the matrix, as the library keeps it
+
 # The fields of a session, in the order in which they are lent. All zero is the empty session.
-SESSION_FIELDS = {
+SESSION_FIELDS: dict[str, type[Array[Any]]] = {
     "held": c_uint64 * 3,
     "own": c_uint64 * 31,
     "matrix": c_int64 * 961,
@@ -41,21 +48,31 @@ class Shown(Structure):
     _fields_ = [("refusal", Refusal), ("start", c_uint64), ("length", c_uint64)]
 
 
+class System(Structure):
+    """The figures of the open file: row k, column l of the matrix at 31·k + l."""
+
+    _fields_ = [
+        ("refusal", Refusal), ("last", c_uint64), ("closeness", c_uint64),
+        ("own", c_uint64 * 31), ("matrix", c_int64 * 961), ("right_hand", c_int64 * 31),
+    ]
+
+
 class Sizes(Structure):
     """Of each field of a session how many numbers it holds; of the longest file and record how many bytes."""
 
     _fields_ = [(name, c_uint64) for name in (*SESSION_FIELDS, "longest_file", "longest_record")]
 
 
-SESSION = [POINTER(field) for field in SESSION_FIELDS.values()]
-LENT = [c_char_p, c_size_t]
+SESSION: list[Any] = [POINTER(field) for field in SESSION_FIELDS.values()]
+LENT: list[Any] = [c_char_p, c_size_t]
 
 # By name: the answer and the parameters.
-FUNCTIONS = {
+FUNCTIONS: dict[str, tuple[Optional[type[Structure]], list[Any]]] = {
     "desk_open_lent": (Refusal, SESSION + LENT),
     "desk_judge_lent": (Judged, SESSION + LENT),
     "desk_sweep_lent": (Swept, SESSION + [c_uint64]),
     "desk_read_lent": (Refusal, SESSION + [POINTER(c_uint8), c_size_t]),
+    "desk_figures_lent": (System, SESSION),
     "desk_row": (Shown, LENT + [c_uint64, c_uint64]),
     "desk_close_lent": (None, SESSION[:1]),
     "desk_sizes": (Sizes, []),
@@ -71,16 +88,18 @@ class SizesDiffer(LibraryMissing):
 
 
 def library_path() -> Path:
-    """What the environment names, or the library of the checkout that this package stands in."""
+    """What the environment names; or the package's own library, or that of the checkout that the package stands in."""
     named = os.environ.get(VARIABLE)
-    return Path(named) if named else IN_THE_CHECKOUT
+    if named:
+        return Path(named)
+    return IN_THE_PACKAGE if IN_THE_PACKAGE.is_file() else IN_THE_CHECKOUT
 
 
 @lru_cache(maxsize=None)
 def load(path: Path) -> ctypes.CDLL:
     """The library with its functions declared."""
     if not path.is_file():
-        raise LibraryMissing(f"no library {path}: run ./build in the checkout, or name the library in {VARIABLE}")
+        raise LibraryMissing(f"no library {path}: run ./build in the checkout, install the package anew, or name the library in {VARIABLE}")
     try:
         library = ctypes.CDLL(str(path.resolve()))
         for name, (answer, parameters) in FUNCTIONS.items():

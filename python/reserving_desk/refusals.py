@@ -1,48 +1,55 @@
-"""Document 01, "Turned back by the input" and "Turned back by the state": its numbers, in the words of the README's table."""
+"""Why a call is refused: the numbers and words of section "Refusals" in docs/SPECIFICATION.md."""
 
 from __future__ import annotations
 
 from typing import Optional
 
 WORDS = {
-    1: "fewer than 10 bytes (record: 5), or not as many as its length word says",
-    2: "the version is not 1",
-    3: "J is not 1 to 15",
-    4: "the length is wrong for J",
-    5: "closeness is not 1 to 65,536",
-    6: "σ² or τ² is not 2^18 to 2^40",
-    7: "a prior variance is not 2^18 to 2^46",
-    8: "a prior mean is not −2^26 to 2^26",
-    9: "an amount is not 1 to 2^40",
-    10: "the last amounts of year 0 differ",
-    11: "a part of a record is not −2^26 to 2^26",
-    12: "n is not 1 to 4,096",
-    13: "the buffer is shorter than the record",
-    14: "the channel is above 1",
-    15: "the year is above J",
-    16: "a diagonal entry of the matrix is zero",
-    21: "nothing is open",
-    22: "a file is open already",
-    23: "4,096 sweeps are run and the mean does not pass",
-    24: "the mean does not pass",
+    1: "shorter than a header (10 bytes of a file, 5 of a mean record), or not as long as its length field says",
+    2: "the version of the format must be 1",
+    3: "the last development year J must be from 1 to 15",
+    4: "the length does not suit the number of development years",
+    5: "the closeness must be from 1 to 65,536 ticks",
+    6: "a variance of sigma or tau must be from 2^18 to 2^40 squared ticks",
+    7: "the variance of a prior must be from 2^18 to 2^46 squared ticks",
+    8: "the mean of a prior must be from -2^26 to 2^26 ticks",
+    9: "an amount must be from 1 to 2^40",
+    10: "the oldest accident year must end with the same amount paid as incurred",
+    11: "each part of a mean must be from -2^26 to 2^26 ticks",
+    12: "the number of sweeps must be from 1 to 4,096",
+    13: "the buffer has no room for the mean record",
+    14: "the channel must be 0 (paid) or 1 (incurred)",
+    15: "the file has no such accident year",
+    16: "the diagonal of the matrix has a zero",
+    21: "no file is open in this session",
+    22: "this session has a file open already",
+    23: "all 4,096 sweeps are run and the mean still does not pass",
+    24: "the mean that is held does not pass",
 }
 
 
 class Refused(Exception):
     """A call was refused, and changed nothing.
 
-    `number` and `place` are document 01's; `words` say what the number means. `field` names the field at the place, as
-    "paid amount, year 1, column 0", and is None where the place names none.
+    `number` and `place` are the desk's, and `words` say what the number means. `field` names the field or the argument that was
+    refused, as "paid amount of accident year 1, development year 0"; `value` is the number that stood there (of bytes and of a
+    buffer, how many they are), and `limits` say what is allowed. These three are None where a call was refused for the session's
+    state. `details` tell all three in a sentence.
     """
 
-    def __init__(self, number: int, place: int = 0, field: Optional[str] = None) -> None:
-        super().__init__(number, place, field)
+    def __init__(
+        self, number: int, place: int = 0, field: Optional[str] = None, value: Optional[int] = None, limits: Optional[str] = None,
+        details: Optional[str] = None,
+    ) -> None:
+        super().__init__(number, place, field, value, limits, details)  # by which a copy is made, in another process too
         self.number = number
         self.place = place
         self.field = field
+        self.value = value
+        self.limits = limits
+        self.details = details
         self.words = WORDS[number]
 
     def __str__(self) -> str:
         said = f"refused {self.number} at {self.place}: {self.words}"
-        is_said_already = self.field is None or self.field in self.words  # as the version is
-        return said if is_said_already else f"{said} ({self.field})"
+        return f"{said} ({self.details})" if self.details else said

@@ -6,7 +6,9 @@ from decimal import Decimal
 from fractions import Fraction
 from typing import Union
 
-TICKS_PER_DOUBLING = 1 << 20  # T of document 01
+from .arguments import shown, whole, wrong_type
+
+TICKS_PER_DOUBLING = 1 << 20  # T of the specification
 
 Number = Union[int, float, str, Decimal, Fraction]  # a str such as "0.1393" is the very fraction 1393/10000
 
@@ -21,17 +23,31 @@ TICKS_PER_UNIT = TICKS_PER_DOUBLING / _natural_log_of_two()  # of the natural lo
 
 def squared_ticks(deviation: Number) -> int:
     """The variance in squared ticks, to the nearest, of a standard deviation in natural logarithms."""
-    exact = Fraction(deviation)
+    exact = _exact("deviation", deviation)
     if exact < 0:
-        raise ValueError(f"a standard deviation is at least 0, not {deviation}")
+        raise ValueError(f"deviation must be at least 0, not {shown(deviation)}")
     return round((exact * TICKS_PER_UNIT) ** 2)
 
 
 def ticks(natural: Number) -> int:
     """A natural logarithm in ticks, to the nearest."""
-    return round(Fraction(natural) * TICKS_PER_UNIT)
+    return round(_exact("natural", natural) * TICKS_PER_UNIT)
 
 
 def natural_log(count: int) -> float:
     """The natural logarithm that so many ticks are."""
-    return float(count / TICKS_PER_UNIT)
+    number = whole("count", count)
+    try:
+        return float(number / TICKS_PER_UNIT)
+    except OverflowError:
+        raise ValueError(f"count must be a number that a float can hold, not one of {number.bit_length():,} bits") from None
+
+
+def _exact(name: str, given: Number) -> Fraction:
+    try:
+        # A whole number of numpy's would count in 64 bits, and wrap.
+        return Fraction(whole(name, given)) if hasattr(given, "__index__") else Fraction(given)
+    except TypeError:
+        raise wrong_type(name, "a number", given) from None
+    except (ValueError, ArithmeticError):  # no number, or none that is finite
+        raise ValueError(f"{name} must be a finite number, not {shown(given)}") from None

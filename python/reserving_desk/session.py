@@ -1,84 +1,60 @@
-"""Document 01, "The session": its calls. What the library answers comes back as a value, and a refusal is raised."""
+"""A session of the desk: section "The calls" of docs/SPECIFICATION.md. A call answers a value, and a refusal is raised."""
 
 from __future__ import annotations
 
 import threading
-from ctypes import c_uint8
-from dataclasses import dataclass
-from operator import index
+from ctypes import Array, c_uint8
 from types import TracebackType
-from typing import Optional, Union
+from typing import Any, NoReturn, Optional, SupportsIndex, Union
 
-from .layout import LONGEST_RECORD, Mean, field_of_file, field_of_record, mean_of
-from .library import SESSION_FIELDS, Refusal, library_path, load
-from .refusals import Refused
+from .answers import Figures, Judgement, Sweeping
+from .arguments import BytesLike, lent_bytes, not_negative, whole, writable_view
+from .details import refused_file, refused_read, refused_record, refused_row, refused_state, refused_sweep
+from .layout import AMOUNT, LONGEST_RECORD, MOST_SWEEPS, Mean, mean_of
+from .library import ROW_LENGTH, SESSION_FIELDS, library_path, load
 
-MOST_SWEEPS = 4_096  # for one open file
-PAID, INCURRED = 0, 1  # the channels of a row
-AMOUNT_LENGTH = 8
 LARGEST_NUMBER = (1 << 64) - 1  # that the library can be handed
-
-BytesLike = Union[bytes, bytearray, memoryview]
-
-
-@dataclass(frozen=True)
-class Judgement:
-    """Whether a mean passes, and if not the first part that fails: phi 0..J are parts 0..J, then psi. True if it passes."""
-
-    passed: bool
-    part: Optional[int]
-
-    def __bool__(self) -> bool:
-        return self.passed
-
-
-@dataclass(frozen=True)
-class Sweeping:
-    """Whether the mean is settled, and the sweeps run since open. True if it is settled."""
-
-    settled: bool
-    total: int
-
-    def __bool__(self) -> bool:
-        return self.settled
 
 
 class Session:
-    """A session of the desk, empty at first. Every call but `close` raises `Refused` where document 01 refuses it.
+    """A session of the desk, empty at first. Every call but `close` raises `Refused` where the desk refuses it.
 
-    As a context manager it closes itself at the end. Threads may share a session: its calls run one at a time.
+    As a context manager it closes itself at the end. Threads may share a session: its calls run one at a time. A copy of a session
+    is a session of its own, and neither sees what the other does later; a session is not pickled.
     """
 
     def __init__(self) -> None:
         self._library = load(library_path())
-        self._fields = tuple(field() for field in SESSION_FIELDS.values())
+        self._fields: tuple[Array[Any], ...] = tuple(field() for field in SESSION_FIELDS.values())
         self._one_at_a_time = threading.Lock()
 
     def open(self, file: BytesLike) -> None:
         """Opens a file: the session then holds its figures, its prior means as mean, 0 sweeps. Refused with 22, 1 to 10, 16."""
-        lent = _lent(file)
+        lent = lent_bytes("file", file)
         with self._one_at_a_time:
             refusal = self._library.desk_open_lent(*self._fields, lent, len(lent))
         if refusal.number:
-            raise Refused(refusal.number, refusal.place, field_of_file(lent, refusal.place))
+            raise refused_file(refusal, lent)
 
     def judge(self, record: BytesLike) -> Judgement:
         """Judges a mean record, whoever wrote it; the session is untouched. Refused with 21, 1, 2, 4, 11."""
-        lent = _lent(record)
+        lent = lent_bytes("record", record)
         with self._one_at_a_time:
             judged = self._library.desk_judge_lent(*self._fields, lent, len(lent))
+            last = self._last()
         if judged.refusal.number:
-            place = judged.refusal.place
-            raise Refused(judged.refusal.number, place, field_of_record(lent, place))
+            raise refused_record(judged.refusal, lent, last)
         return Judgement(True, None) if judged.passed else Judgement(False, judged.part)
 
     def sweep(self, n: int = MOST_SWEEPS) -> Sweeping:
         """Runs up to n sweeps, until the mean passes or the total is 4,096. Refused with 21, 12, 23."""
+        wanted = whole("n", n)
         # Beyond what the library can be handed the answer is the same as at its limits.
-        within = min(max(index(n), 0), LARGEST_NUMBER)
+        within = min(max(wanted, 0), LARGEST_NUMBER)
         with self._one_at_a_time:
             swept = self._library.desk_sweep_lent(*self._fields, within)
-        _raise_if_refused(swept.refusal)
+        if swept.refusal.number:
+            raise refused_sweep(swept.refusal, wanted)
         return Sweeping(bool(swept.settled), swept.total)
 
     def read(self) -> Mean:
@@ -89,30 +65,57 @@ class Session:
 
     def read_into(self, buffer: Union[bytearray, memoryview]) -> None:
         """Writes the record of the mean at the front of a buffer; the bytes behind are untouched. Refused with 21, 24, 13."""
-        with memoryview(buffer) as view:
-            lent = (c_uint8 * view.nbytes).from_buffer(view)
+        with writable_view("buffer", buffer) as view:
+            size = view.nbytes
+            lent = (c_uint8 * size).from_buffer(view)
             with self._one_at_a_time:
-                refusal = self._library.desk_read_lent(*self._fields, lent, len(lent))
+                refusal = self._library.desk_read_lent(*self._fields, lent, size)
+                last = self._last()
             del lent  # which would keep the buffer's size fixed
-        _raise_if_refused(refusal)
+        if refusal.number:
+            raise refused_read(refusal, size, last)
+
+    def figures(self) -> Figures:
+        """The linear system that judges every mean of the open file, for a solver of one's own.
+
+        Solve it with any tool, round each part, and let the desk judge what comes out:
+
+            figures = desk.figures()
+            parts = [round(part) for part in solve(figures.matrix, figures.right_hand_side)]
+            mean = Mean(parts[:figures.last + 1], parts[figures.last + 1:])
+            print(desk.judge(record_of(mean)).passed)
+
+        With a closeness of at least 256 the exact solution, rounded so, passes if its parts are inside the limits. Refused with 21.
+        """
+        with self._one_at_a_time:
+            system = self._library.desk_figures_lent(*self._fields)
+        if system.refusal.number:
+            raise refused_state(system.refusal)
+        parts = 2 * system.last + 1
+        rows = (system.matrix[start:start + parts] for start in range(0, parts * ROW_LENGTH, ROW_LENGTH))
+        own, right_hand = tuple(system.own[:parts]), tuple(system.right_hand[:parts])
+        return Figures(system.last, system.closeness, own, tuple(map(tuple, rows)), right_hand)
 
     def row(self, file: BytesLike, channel: int, year: int) -> tuple[int, ...]:
         """An accident year's amounts in the paid (0) or incurred (1) block of a file, whatever is open.
 
         Refused with 1 to 10, 14, 15.
         """
-        lent = _lent(file)
-        numbers = (_unsigned("channel", channel), _unsigned("year", year))
-        shown = self._library.desk_row(lent, len(lent), *numbers)
+        lent = lent_bytes("file", file)
+        numbers = (not_negative("channel", channel), not_negative("year", year))
+        shown = self._library.desk_row(lent, len(lent), *(min(number, LARGEST_NUMBER) for number in numbers))
         if shown.refusal.number:
-            raise Refused(shown.refusal.number, shown.refusal.place, field_of_file(lent, shown.refusal.place))
-        starts = range(shown.start, shown.start + shown.length, AMOUNT_LENGTH)
-        return tuple(int.from_bytes(lent[start:start + AMOUNT_LENGTH], "big") for start in starts)
+            raise refused_row(shown.refusal, lent, *numbers)
+        return tuple(AMOUNT.number_at(lent, place) for place in range(shown.start, shown.start + shown.length, AMOUNT.width))
 
     def close(self) -> None:
         """Empties the session, which can be opened again; never refused."""
         with self._one_at_a_time:
             self._library.desk_close_lent(self._fields[0])
+
+    def _last(self) -> int:
+        """J of the file that is open, for the words of a refusal."""
+        return int(self._fields[0][0])
 
     def __enter__(self) -> Session:
         return self
@@ -122,21 +125,16 @@ class Session:
     ) -> None:
         self.close()
 
+    def __copy__(self) -> Session:
+        twin = type(self).__new__(type(self))
+        twin.__dict__.update(self.__dict__)
+        with self._one_at_a_time:
+            twin._fields = tuple(type(field).from_buffer_copy(field) for field in self._fields)
+        twin._one_at_a_time = threading.Lock()
+        return twin
 
-def _lent(given: BytesLike) -> bytes:
-    """A copy, since another thread could change what is lent while the library reads it."""
-    return memoryview(given).tobytes()
+    def __deepcopy__(self, memo: dict[int, object]) -> Session:
+        return self.__copy__()
 
-
-def _unsigned(name: str, number: int) -> int:
-    """A channel or year as the library is handed it; one that is too large is refused as its largest number is."""
-    whole = index(number)
-    if whole < 0:
-        raise ValueError(f"{name} is at least 0, not {whole}")
-    return min(whole, LARGEST_NUMBER)
-
-
-def _raise_if_refused(refusal: Refusal) -> None:
-    """Of a call whose refusals name no field."""
-    if refusal.number:
-        raise Refused(refusal.number, refusal.place)
+    def __reduce_ex__(self, protocol: SupportsIndex) -> NoReturn:
+        raise TypeError("a session cannot be pickled: figures that come from elsewhere would be believed; open the file again there")

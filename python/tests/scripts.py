@@ -6,7 +6,7 @@ from collections.abc import Iterator
 from io import BytesIO
 
 import paths  # noqa: F401
-from reserving_desk import Refused, Session
+from reserving_desk import Figures, Refused, Session
 
 LENT_BYTE = b"\xa5"  # what a lent buffer is filled with
 
@@ -24,7 +24,7 @@ def answers(script: bytes) -> Iterator[str]:
             buffer = LENT_BYTE * _number(source) if letter == b"r" else b""
             changed = bytearray(buffer)
             try:
-                yield _answer(letter, source, session, changed)
+                yield from _answer(letter, source, session, changed).splitlines()
             except Refused as refused:
                 if contents(session) != before:
                     raise Changed(f"by a call that is {refused}") from refused
@@ -35,7 +35,7 @@ def answers(script: bytes) -> Iterator[str]:
 
 def contents(session: Session) -> bytes:
     """Every byte that the session keeps."""
-    return b"".join(map(bytes, session._fields))
+    return b"".join(bytes(field) for field in session._fields)
 
 
 def _answer(letter: bytes, source: BytesIO, session: Session, buffer: bytearray) -> str:
@@ -51,6 +51,8 @@ def _answer(letter: bytes, source: BytesIO, session: Session, buffer: bytearray)
     if letter == b"r":
         session.read_into(buffer)
         return "read"
+    if letter == b"f":
+        return _system(session.figures())
     if letter == b"w":
         row = session.row(_string(source), _number(source), _number(source))
         return "row " + b"".join(amount.to_bytes(8, "big") for amount in row).hex()
@@ -58,6 +60,12 @@ def _answer(letter: bytes, source: BytesIO, session: Session, buffer: bytearray)
         session.close()
         return "closed"
     raise ValueError(f"no call has the letter {letter!r}")
+
+
+def _system(figures: Figures) -> str:
+    rows = (("own", figures.own_weights), *(("row", row) for row in figures.matrix), ("right", figures.right_hand_side))
+    lines = (" ".join((name, *map(str, numbers))) for name, numbers in rows)
+    return "\n".join((f"figures {figures.last} {figures.closeness}", *lines))
 
 
 def _number(source: BytesIO) -> int:

@@ -61,43 +61,24 @@ class Files(unittest.TestCase):
 
     def test_what_does_not_fit_is_named(self) -> None:
         f = samples.file_f()
+        eight = "must be from 0 to 18,446,744,073,709,551,615, which 8 bytes can hold, not"
+        four = "must be from -2,147,483,648 to 2,147,483,647, which 4 bytes can hold, not"
         wrong = {
-            "closeness is 4294967296, and its 4 bytes hold 0 to 4294967295": replace(f, closeness=1 << 32),
-            "closeness is -1, ": replace(f, closeness=-1),
-            "sigma squared of column 1 is -1, ": replace(f, sigma2=(1 << 30, -1)),
-            "tau squared of column 0 is 18446744073709551616, ": replace(f, tau2=(1 << 64,)),
-            "prior mean of Psi 0 is 2147483648, and its 4 bytes hold -2147483648 to 2147483647": replace(
-                f, prior_means=(0, 0, 1 << 31)
-            ),
-            "prior variance of Phi 0 is -5, ": replace(f, prior_variances=(-5, 1 << 46, 1 << 46)),
-            "paid amount, year 1, column 0 is -7, ": replace(f, paid=((1 << 10, 1 << 11), (-7,))),
-            "incurred amount, year 0, column 1 is 18446744073709551616, ": replace(f, incurred=((1, 1 << 64), (1,))),
-            "J is 256, and its 1 bytes hold 0 to 255": samples.file_at_limits(256, 0),
+            "closeness must be from 0 to 4,294,967,295, which 4 bytes can hold, not 4,294,967,296": replace(f, closeness=1 << 32),
+            "closeness must be from 0 to 4,294,967,295, which 4 bytes can hold, not -1": replace(f, closeness=-1),
+            f"sigma squared of development year 1 {eight} -1": replace(f, sigma2=(1 << 30, -1)),
+            f"tau squared of development year 0 {eight} 18,446,744,073,709,551,616": replace(f, tau2=(1 << 64,)),
+            f"tau squared of development year 0 {eight} a number of 20,001 bits": replace(f, tau2=(1 << 20_000,)),
+            f"prior mean of psi of development year 0 {four} 2,147,483,648": replace(f, prior_means=(0, 0, 1 << 31)),
+            f"prior variance of phi of development year 0 {eight} -5": replace(f, prior_variances=(-5, 1 << 46, 1 << 46)),
+            f"paid amount of accident year 1, development year 0 {eight} -7": replace(f, paid=((1 << 10, 1 << 11), (-7,))),
+            f"incurred amount of accident year 0, development year 1 {eight} -1": replace(f, incurred=((1, -1), (1,))),
+            "last development year J must be from 0 to 255, which 1 byte can hold, not 256": samples.file_at_limits(256, 0),
         }
         for message, file in wrong.items():
-            with self.assertRaisesRegex(ValueError, f"^{message}"):
+            with self.assertRaises(ValueError) as caught:
                 built(file)
-
-    def test_wrong_shapes_are_named(self) -> None:
-        f = samples.file_f()
-        wrong = {
-            "paid has no accident year": replace(f, paid=()),
-            "incurred has 1 accident years, not 2": replace(f, incurred=f.incurred[:1]),
-            "paid, year 1, has 2 amounts, not 1": replace(f, paid=((1, 2), (1, 2))),
-            "incurred, year 0, has 1 amounts, not 2": replace(f, incurred=((1,), (1,))),
-            "sigma_squared has 1 variances, not 2": replace(f, sigma2=(1 << 30,)),
-            "tau_squared has 0 variances, not 1": replace(f, tau2=()),
-            "psi_priors has 2 priors, not 1": replace(f, prior_means=(0,) * 4, prior_variances=(1 << 46,) * 4),
-        }
-        for message, file in wrong.items():
-            with self.assertRaisesRegex(ValueError, f"^{message}$"):
-                built(file)
-
-    def test_only_whole_numbers(self) -> None:
-        f = samples.file_f()
-        for amount in (1024.0, "1024", None):
-            with self.assertRaisesRegex(TypeError, "^paid amount, year 1, column 0 is a whole number, not "):
-                built(replace(f, paid=((1 << 10, 1 << 11), (amount,))))
+            self.assertEqual(str(caught.exception), message)
 
 
 class Records(unittest.TestCase):
@@ -122,12 +103,8 @@ class Records(unittest.TestCase):
             self.assertEqual(record_of(mean), bytes(buffer))
 
     def test_what_does_not_fit_is_named(self) -> None:
-        with self.assertRaisesRegex(ValueError, "^part Psi 0 is 2147483648, "):
+        with self.assertRaisesRegex(ValueError, "^psi of development year 0 must be from .* 4 bytes can hold, not 2,147,483,648$"):
             record_of(Mean((0, 0), (1 << 31,)))
-        with self.assertRaisesRegex(TypeError, "^part Phi 1 is a whole number, not 0.5"):
-            record_of(Mean((0, 0.5), (0,)))
-        with self.assertRaisesRegex(ValueError, "one phi more than psi, not 2 and 2"):
-            Mean((0, 0), (0, 0))
 
 
 if __name__ == "__main__":

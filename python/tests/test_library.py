@@ -12,7 +12,8 @@ import paths  # noqa: F401
 import samples
 from layout import build_file
 from reserving_desk import LibraryMissing, Session, Sweeping
-from reserving_desk.library import VARIABLE, library_path
+from reserving_desk import library as package
+from reserving_desk.library import IN_THE_CHECKOUT, VARIABLE, library_path
 
 
 class Library(unittest.TestCase):
@@ -24,6 +25,17 @@ class Library(unittest.TestCase):
             desk.open(build_file(samples.file_f()))
             self.assertEqual(Path(desk._library._name), Path(copy).resolve())
             self.assertEqual(desk.sweep(), Sweeping(True, 0))
+
+    def test_its_own_comes_before_that_of_the_checkout(self) -> None:
+        with tempfile.TemporaryDirectory() as folder:
+            own = Path(folder) / "libdesk.so"
+            with mock.patch.object(package, "IN_THE_PACKAGE", own), mock.patch.dict(os.environ):
+                os.environ.pop(VARIABLE, None)
+                self.assertEqual(library_path(), IN_THE_CHECKOUT)
+                own.touch()
+                self.assertEqual(library_path(), own)
+                os.environ[VARIABLE] = "/named"
+                self.assertEqual(library_path(), Path("/named"))
 
     def test_missing(self) -> None:
         with mock.patch.dict(os.environ, {VARIABLE: "/nowhere/libdesk.so"}):

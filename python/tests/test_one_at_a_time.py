@@ -8,6 +8,7 @@ import inspect
 import threading
 import unittest
 from collections.abc import Callable
+from typing import Any
 
 import paths  # noqa: F401
 
@@ -27,6 +28,7 @@ EXAMPLES: dict[str, Callable[[Session], object]] = {
     "sweep": lambda desk: desk.sweep(1),
     "read": lambda desk: desk.read(),
     "read_into": lambda desk: desk.read_into(bytearray(40)),
+    "figures": lambda desk: desk.figures(),
     "row": lambda desk: desk.row(FILE, 0, 0),
     "close": lambda desk: desk.close(),
     "__enter__": lambda desk: desk.__enter__(),
@@ -57,8 +59,9 @@ def watched_session(method: str) -> tuple[Session, Watched]:
     desk = Session()
     if method != "open":
         desk.open(FILE)
-    desk._library = Watched(desk)
-    return desk, desk._library
+    watched: Any = Watched(desk)
+    desk._library = watched
+    return desk, watched
 
 
 class OneAtATime(unittest.TestCase):

@@ -1,4 +1,4 @@
-"""The README's example of the package runs, and prints what its comments say."""
+"""The example of each README runs, and prints what its comments say."""
 
 import os
 import re
@@ -10,23 +10,35 @@ import unittest
 from paths import ROOT
 
 
-def example() -> str:
+def example(document: str) -> str:
     """The block of code that imports the package."""
-    blocks = re.findall(r"(?:^ {4}.*\n|^\n)+", (ROOT / "README.md").read_text(), re.MULTILINE)
+    blocks = re.findall(r"(?:^ {4}.*\n|^\n)+", (ROOT / document).read_text(), re.MULTILINE)
     return textwrap.dedent(next(block for block in blocks if "from reserving_desk import" in block))
 
 
 class Readme(unittest.TestCase):
-    def test_example(self) -> None:
+    def assert_prints_what_it_says(self, code: str) -> None:
         environment = {**os.environ, "PYTHONPATH": str(ROOT / "python")}
-        command = [sys.executable, "-W", "error", "-c", example()]
+        command = [sys.executable, "-W", "error", "-c", code]
         done = subprocess.run(command, cwd=ROOT, env=environment, capture_output=True, text=True)
         self.assertEqual((done.returncode, done.stderr), (0, ""))
-        comments = re.findall(r"print\(.*  # (.*)", example())
+        comments = re.findall(r"print\(.*  # (.*)", code)
         printed = done.stdout.splitlines()
         self.assertEqual(len(printed), len(comments))
         for line, comment in zip(printed, comments):
             self.assertRegex(comment, rf"{re.escape(line)}(?!\w)", f"{line!r} is printed, and {comment!r} is said")
+
+    def test_of_the_desk(self) -> None:
+        self.assert_prints_what_it_says(example("README.md"))
+
+    def test_of_the_package(self) -> None:
+        self.assert_prints_what_it_says(example("python/README.md"))
+
+    def test_links_of_the_package(self) -> None:
+        text = (ROOT / "python" / "README.md").read_text()
+        links = re.findall(r"\]\((.*?)\)", text)
+        self.assertTrue(links)
+        self.assertEqual([link for link in links if not (ROOT / "python" / link).is_file()], [])
 
 
 if __name__ == "__main__":

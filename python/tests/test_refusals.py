@@ -1,10 +1,13 @@
-"""Every refusal: its number, place, words and the name of its field."""
+"""Every refusal: its number, place and words, the name of its field, the number that stood there and what is allowed."""
 
+import copy
 import pickle
 import unittest
 from collections.abc import Callable
+from concurrent.futures import ProcessPoolExecutor
+from multiprocessing import get_context
 
-import paths  # noqa: F401
+from refusing import F, opened, refusal_of
 
 import damage
 import layout
@@ -17,142 +20,150 @@ LAST = 3
 FILE = build_file(samples.many_sweeps(LAST))
 RECORD = build_record((0,) * parts_count(LAST))
 
-# The field that damage.SPOIL_FILE and SPOIL_RECORD spoil for each number.
-SPOILED_FIELDS = {
-    1: None,
-    2: "version",
-    3: "J",
-    4: None,
-    5: "closeness",
-    6: "tau squared of column 0",
-    7: "prior variance of Phi 1",
-    8: "prior mean of Phi 0",
-    9: "paid amount, year 1, column 0",
-    10: "paid amount, year 0, column 3",
-    11: "part Phi 2",
+# The field that damage.SPOIL_FILE and SPOIL_RECORD spoil for each number, and the number that they put there.
+SPOILED_FILE = {
+    1: ("length", len(FILE) + 1),
+    2: ("version", 2),
+    3: ("last development year J", 16),
+    4: ("length", len(FILE) + 8),
+    5: ("closeness", 0),
+    6: ("tau squared of development year 0", (1 << 40) + 1),
+    7: ("prior variance of phi of development year 1", (1 << 18) - 1),
+    8: ("prior mean of phi of development year 0", -(1 << 26) - 1),
+    9: ("paid amount of accident year 1, development year 0", 0),
+    10: ("paid amount of accident year 0, development year 3", 1),
+}
+SPOILED_RECORD = {
+    1: ("length", len(RECORD) - 1),
+    2: ("version", 0),
+    4: ("length", len(RECORD) + 4),
+    11: ("phi of development year 2", (1 << 26) + 1),
 }
 
 
-def refusal_of(call: Callable[[], object]) -> Refused:
-    try:
-        call()
-    except Refused as refused:
-        return refused
-    raise AssertionError("not refused")
-
-
-def opened(file: bytes = FILE) -> Session:
-    desk = Session()
-    desk.open(file)
-    return desk
+def open_nothing(file: bytes) -> None:
+    """At the top of the module, so that another process finds it."""
+    Session().open(file)
 
 
 class ByNumber(unittest.TestCase):
     def test_of_a_file(self) -> None:
+        self.assertEqual(SPOILED_FILE.keys(), damage.SPOIL_FILE.keys())
         for number, spoil in damage.SPOIL_FILE.items():
             file = spoil(FILE)
             expected = layout.read_file(file)
+            assert isinstance(expected, layout.Refusal)
             for refused in (refusal_of(lambda: Session().open(file)), refusal_of(lambda: Session().row(file, 0, 0))):
                 self.assertEqual((refused.number, refused.place), (expected.number, expected.place))
-                self.assertEqual((refused.number, refused.field), (number, SPOILED_FIELDS[number]))
+                self.assertEqual((refused.number, (refused.field, refused.value)), (number, SPOILED_FILE[number]))
 
     def test_of_a_record(self) -> None:
+        self.assertEqual(SPOILED_RECORD.keys(), damage.SPOIL_RECORD.keys())
         for number, spoil in damage.SPOIL_RECORD.items():
             record = spoil(RECORD)
-            refused = refusal_of(lambda: opened().judge(record))
+            refused = refusal_of(lambda: opened(FILE).judge(record))
             expected = layout.read_record(record, LAST)
+            assert isinstance(expected, layout.Refusal)
             self.assertEqual((refused.number, refused.place), (expected.number, expected.place))
-            self.assertEqual((refused.number, refused.field), (number, SPOILED_FIELDS[number]))
+            self.assertEqual((refused.number, (refused.field, refused.value)), (number, SPOILED_RECORD[number]))
 
     def test_of_numbers_and_buffers(self) -> None:
-        settled = opened(build_file(samples.file_f()))
-        for number, call in {
-            12: lambda: opened().sweep(0),
-            13: lambda: settled.read_into(bytearray(16)),
-            14: lambda: Session().row(FILE, 2, LAST + 1),
-            15: lambda: Session().row(FILE, 1, LAST + 1),
-        }.items():
+        for expected, call in (
+            ((12, "n", 0), lambda: opened(FILE).sweep(0)),
+            ((12, "n", -(1 << 70)), lambda: opened(FILE).sweep(-(1 << 70))),
+            ((13, "buffer", 16), lambda: opened(F).read_into(bytearray(16))),
+            ((14, "channel", 2), lambda: Session().row(FILE, 2, LAST + 1)),
+            ((14, "channel", 1 << 70), lambda: Session().row(FILE, 1 << 70, 0)),
+            ((15, "accident year", LAST + 1), lambda: Session().row(FILE, 1, LAST + 1)),
+        ):
             refused = refusal_of(call)
-            self.assertEqual((refused.number, refused.place, refused.field), (number, 0, None))
+            self.assertEqual((refused.number, refused.field, refused.value), expected)
+            self.assertEqual(refused.place, 0)
 
     def test_of_the_state(self) -> None:
         spent = opened(build_file(samples.spent_at_a_limit()))
         spent.sweep()
-        for number, calls in {
+        calls: dict[int, tuple[Callable[[], object], ...]] = {
             21: (lambda: Session().judge(RECORD), lambda: Session().sweep(0), Session().read, lambda: Session().judge(b"")),
             22: (lambda: spent.open(FILE), lambda: spent.open(b"")),
             23: (spent.sweep,),
             24: (spent.read, lambda: spent.read_into(bytearray())),
-        }.items():
-            for call in calls:
-                refused = refusal_of(call)
-                self.assertEqual((refused.number, refused.place, refused.field), (number, 0, None))
+        }
+        for number, refused_calls in calls.items():
+            for refused in map(refusal_of, refused_calls):
+                self.assertEqual((refused.number, refused.place), (number, 0))
+                self.assertEqual((refused.field, refused.value, refused.limits), (None, None, None))
+                self.assertEqual(str(refused), f"refused {number} at 0: {WORDS[number]}")
 
     def test_every_number_has_words(self) -> None:
         for number, words in WORDS.items():
             self.assertEqual(Refused(number).words, words)
-            self.assertIn(words, str(Refused(number)))
+            self.assertEqual(str(Refused(number)), f"refused {number} at 0: {words}")
 
 
 class Fields(unittest.TestCase):
-    """The name at every place, with places by the reference."""
+    """The name and the number at every place, with places by the reference."""
 
     def assert_field(self, number: int, place: int, name: str, value: int, width: int) -> None:
         refused = refusal_of(lambda: Session().open(damage.put(FILE, place, value, width)))
-        self.assertEqual((refused.number, refused.place, refused.field), (number, place, name))
+        self.assertEqual((refused.number, refused.place, refused.field, refused.value), (number, place, name, value))
 
     def part_names(self) -> list[str]:
-        return [f"Phi {j}" for j in range(LAST + 1)] + [f"Psi {j}" for j in range(LAST)]
+        years = [("phi", j) for j in range(LAST + 1)] + [("psi", j) for j in range(LAST)]
+        return [f"{part} of development year {j}" for part, j in years]
 
     def test_variances(self) -> None:
-        names = [f"sigma squared of column {j}" for j in range(LAST + 1)] + [f"tau squared of column {j}" for j in range(LAST)]
-        for k, name in enumerate(names):
-            self.assert_field(6, layout.variance_place(k), name, 0, 8)
+        years = [("sigma", j) for j in range(LAST + 1)] + [("tau", j) for j in range(LAST)]
+        for k, (name, j) in enumerate(years):
+            self.assert_field(6, layout.variance_place(k), f"{name} squared of development year {j}", 100 + k, 8)
 
     def test_priors(self) -> None:
         for part, name in enumerate(self.part_names()):
-            self.assert_field(7, layout.prior_variance_place(LAST, part), f"prior variance of {name}", 0, 8)
-            self.assert_field(8, layout.prior_mean_place(LAST, part), f"prior mean of {name}", 1 << 27, 4)
+            self.assert_field(7, layout.prior_variance_place(LAST, part), f"prior variance of {name}", 100 + part, 8)
+            self.assert_field(8, layout.prior_mean_place(LAST, part), f"prior mean of {name}", -(1 << 27) - part, 4)
 
     def test_amounts(self) -> None:
         for channel, name in ((PAID, "paid"), (INCURRED, "incurred")):
             for year in range(LAST + 1):
                 for column in range(LAST - year + 1):
                     place = layout.amount_place(LAST, channel, year, column)
-                    self.assert_field(9, place, f"{name} amount, year {year}, column {column}", 0, 8)
+                    said = f"{name} amount of accident year {year}, development year {column}"
+                    self.assert_field(9, place, said, (1 << 40) + 1 + column, 8)
 
     def test_parts_of_a_record(self) -> None:
         for part, name in enumerate(self.part_names()):
-            place = layout.part_place(part)
-            refused = refusal_of(lambda: opened().judge(damage.put(RECORD, place, 1 << 27, 4)))
-            self.assertEqual((refused.number, refused.place, refused.field), (11, place, f"part {name}"))
+            place, value = layout.part_place(part), (1 << 27) + part
+            refused = refusal_of(lambda: opened(FILE).judge(damage.put(RECORD, place, value, 4)))
+            self.assertEqual((refused.number, refused.place, refused.field, refused.value), (11, place, name, value))
 
     def test_last_fields_of_the_longest(self) -> None:
         last = layout.LARGEST_YEAR
         file = build_file(samples.many_sweeps(last))
         place = layout.amount_place(last, INCURRED, last, 0)
         refused = refusal_of(lambda: Session().open(damage.put(file, place, 0, 8)))
-        self.assertEqual(refused.field, "incurred amount, year 15, column 0")
+        self.assertEqual(refused.field, "incurred amount of accident year 15, development year 0")
         record = build_record((0,) * 30 + (1 << 27,))
-        self.assertEqual(refusal_of(lambda: opened(file).judge(record)).field, "part Psi 14")
+        self.assertEqual(refusal_of(lambda: opened(file).judge(record)).field, "psi of development year 14")
 
 
-class Shown(unittest.TestCase):
-    def test_words(self) -> None:
-        self.assertEqual(str(Refused(21)), "refused 21 at 0: nothing is open")
-        self.assertEqual(str(Refused(2, 4, "version")), "refused 2 at 4: the version is not 1")
-        self.assertEqual(
-            str(Refused(9, 86, "paid amount, year 1, column 0")),
-            "refused 9 at 86: an amount is not 1 to 2^40 (paid amount, year 1, column 0)",
-        )
-        self.assertEqual(
-            str(Refused(10, 78, "paid amount, year 0, column 1")),
-            "refused 10 at 78: the last amounts of year 0 differ (paid amount, year 0, column 1)",
-        )
+class Handed(unittest.TestCase):
+    """An exception crosses processes, and is copied, with all that it tells."""
 
-    def test_pickled(self) -> None:
-        same = pickle.loads(pickle.dumps(Refused(9, 86, "paid amount, year 1, column 0")))
-        self.assertEqual((same.number, same.place, same.field), (9, 86, "paid amount, year 1, column 0"))
+    def told(self, refused: Refused) -> tuple[object, ...]:
+        return (str(refused), refused.number, refused.place, refused.field, refused.value, refused.limits, refused.words)
+
+    def test_pickled_and_copied(self) -> None:
+        for refused in (refusal_of(lambda: Session().open(damage.put(F, 86, 0, 8))), refusal_of(Session().read)):
+            for protocol in range(pickle.HIGHEST_PROTOCOL + 1):
+                self.assertEqual(self.told(pickle.loads(pickle.dumps(refused, protocol))), self.told(refused))
+            for twin in (copy.copy(refused), copy.deepcopy(refused)):
+                self.assertEqual(self.told(twin), self.told(refused))
+
+    def test_out_of_another_process(self) -> None:
+        with ProcessPoolExecutor(1, get_context("spawn")) as pool:
+            raised = pool.submit(open_nothing, damage.put(F, 86, 0, 8)).exception()
+        assert isinstance(raised, Refused)
+        self.assertEqual(self.told(raised), self.told(refusal_of(lambda: Session().open(damage.put(F, 86, 0, 8)))))
 
 
 if __name__ == "__main__":

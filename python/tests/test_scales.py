@@ -11,6 +11,7 @@ import paths  # noqa: F401
 import paper
 from reserving_desk import TICKS_PER_DOUBLING as T
 from reserving_desk import natural_log, scales, squared_ticks, ticks
+from reserving_desk.scales import Number
 
 
 class Ticks(unittest.TestCase):
@@ -37,16 +38,16 @@ class SquaredTicks(unittest.TestCase):
 
     def test_every_kind_of_number(self) -> None:
         expected = paper.squared_ticks(Fraction(1393, 10_000))
-        for deviation in (0.1393, "0.1393", "1393e-4", Decimal("0.1393"), Fraction(1393, 10_000)):
+        numbers: tuple[Number, ...] = (0.1393, "0.1393", "1393e-4", Decimal("0.1393"), Fraction(1393, 10_000))
+        for deviation in numbers:
             self.assertEqual(squared_ticks(deviation), expected)
         self.assertEqual(squared_ticks(0), 0)
 
     def test_no_deviation(self) -> None:
-        for wrong in (-1, "-0.1", nan, "much"):
-            with self.assertRaises(ValueError):
-                squared_ticks(wrong)
-        with self.assertRaises(OverflowError):
-            squared_ticks(inf)
+        wrong: tuple[Number, ...] = (-1, "-0.1", nan, inf, "much")
+        for deviation in wrong:
+            with self.assertRaisesRegex(ValueError, "^deviation must be "):
+                squared_ticks(deviation)
 
     def test_natural_log_of_two(self) -> None:
         """By another series, of which less than 2^-139 is left."""

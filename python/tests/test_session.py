@@ -1,9 +1,10 @@
-"""The calls: document 01's figures of File F, and sessions against the reference, answer by answer."""
+"""The calls: the specification's figures of File F, and sessions against the reference, answer by answer."""
 
 import unittest
 from array import array
 from concurrent.futures import ThreadPoolExecutor
 from random import Random
+from typing import Any
 
 import scripts
 from paths import ROOT
@@ -15,6 +16,7 @@ import vectors_calls
 from layout import build_file, build_record
 from reserving_desk import INCURRED, PAID, TICKS_PER_DOUBLING as T
 from reserving_desk import Judgement, Mean, Refused, Session, Sweeping
+from reserving_desk.arguments import BytesLike
 
 F = build_file(samples.file_f())
 SETTLED = (10 * T, T, -T)
@@ -60,19 +62,13 @@ class FileF(unittest.TestCase):
 
 class Lent(unittest.TestCase):
     def test_any_bytes(self) -> None:
-        words = array("H")
+        words: Any = array("H")
         words.frombytes(F)
-        for file in (bytearray(F), memoryview(F), memoryview(bytes(2) + F)[2:], memoryview(F[::-1])[::-1], words):
+        files: tuple[BytesLike, ...] = (bytearray(F), memoryview(F), memoryview(bytes(2) + F)[2:], memoryview(F[::-1])[::-1], words)
+        for file in files:
             with Session() as desk:
                 desk.open(file)
                 self.assertEqual(desk.judge(bytearray(build_record(SETTLED))), Judgement(True, None))
-
-    def test_no_bytes(self) -> None:
-        desk = Session()
-        for wrong in ("text", 118, None, [1, 2]):
-            for call in (desk.open, desk.judge, desk.read_into, lambda wrong: desk.row(wrong, 0, 0)):
-                with self.assertRaises(TypeError):
-                    call(wrong)
 
     def test_buffer(self) -> None:
         desk = Session()
@@ -83,12 +79,10 @@ class Lent(unittest.TestCase):
             desk.read_into(memoryview(buffer))
             self.assertEqual(buffer, record + scripts.LENT_BYTE * (size - len(record)))
             buffer.append(0)  # nothing holds on to it
-        with self.assertRaises(TypeError):
-            desk.read_into(bytes(40))
 
 
 class Numbers(unittest.TestCase):
-    """Every whole number has document 01's answer, also those beyond 64 bits."""
+    """Every whole number has its answer, also those beyond 64 bits."""
 
     def refusal(self, call: str, *arguments: object) -> int:
         desk = Session()
@@ -105,15 +99,6 @@ class Numbers(unittest.TestCase):
         for past in (2, 256, 1 << 32, 1 << 64, 1 << 70):
             self.assertEqual(self.refusal("row", F, past, 0), 14)
             self.assertEqual(self.refusal("row", F, 0, past), 15)
-
-    def test_none_of_document_01(self) -> None:
-        desk = Session()
-        for arguments in ((-1, 0), (0, -1)):
-            with self.assertRaisesRegex(ValueError, "is at least 0, not -1"):
-                desk.row(F, *arguments)
-        for call in (lambda: desk.sweep(1.5), lambda: desk.row(F, 0.0, 0), lambda: desk.row(F, 0, "1")):
-            with self.assertRaises(TypeError):
-                call()
 
 
 class Sessions(unittest.TestCase):

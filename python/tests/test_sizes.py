@@ -2,7 +2,8 @@
 
 import unittest
 from contextlib import AbstractContextManager
-from ctypes import c_int32, c_uint64
+from ctypes import c_int32, c_uint64, sizeof
+from typing import Any
 from unittest import mock
 
 import paths  # noqa: F401
@@ -17,17 +18,22 @@ def load_anew() -> None:
     package.load.__wrapped__(package.library_path())
 
 
-def with_size(name: str, size: object) -> AbstractContextManager:
+def with_size(name: str, size: Any) -> AbstractContextManager[Any]:
     """The package with one of the sizes that the library tells changed."""
     if name in package.SESSION_FIELDS:
         return mock.patch.dict(package.SESSION_FIELDS, {name: size})
     return mock.patch.object(package, name.upper(), size)
 
 
-def size_and_next(name: str) -> tuple[object, object]:
+def count_of(name: str) -> int:
+    """How many numbers a field of a session holds, each of 8 bytes."""
+    return sizeof(package.SESSION_FIELDS[name]) // sizeof(c_uint64)
+
+
+def size_and_next(name: str) -> tuple[Any, Any]:
     """One less than the package has, and one more."""
     if name in package.SESSION_FIELDS:
-        count = package.SESSION_FIELDS[name]._length_
+        count = count_of(name)
         return c_uint64 * (count - 1), c_uint64 * (count + 1)
     return getattr(package, name.upper()) - 1, getattr(package, name.upper()) + 1
 
@@ -46,9 +52,10 @@ class Sizes(unittest.TestCase):
                         load_anew()
 
     def test_numbers_of_four_bytes(self) -> None:
-        for name, field in package.SESSION_FIELDS.items():
-            with self.subTest(name), with_size(name, c_int32 * field._length_):
-                said = f"{name} has {8 * field._length_} bytes there and {4 * field._length_} here"
+        for name in package.SESSION_FIELDS:
+            count = count_of(name)
+            with self.subTest(name), with_size(name, c_int32 * count):
+                said = f"{name} has {8 * count} bytes there and {4 * count} here"
                 with self.assertRaisesRegex(SizesDiffer, said):
                     load_anew()
 

@@ -3,18 +3,6 @@
  * settles are the reference's. Arguments: the sample's file and its listing. */
 #include "support.h"
 
-static desk_session opened(const uint8_t *file, size_t length) {
-    desk_session s = DESK_EMPTY;
-    EXPECT_DONE(desk_open(&s, file, length));
-    return s;
-}
-
-static desk_session opened_f(uint64_t closeness) {
-    uint8_t file[F_LENGTH];
-    file_f(file, closeness);
-    return opened(file, sizeof file);
-}
-
 static desk_judgement judged(const desk_session *s, int64_t phi_0, int64_t phi_1, int64_t psi_0) {
     const int64_t parts[3] = {phi_0, phi_1, psi_0};
     uint8_t record[F_RECORD];
@@ -59,6 +47,33 @@ static void test_figures_of_f(void) {
     desk_close(&s);
     const desk_session wider = opened_f(2);
     expect_passed(judged(&wider, 10 * T, T + 1, -T));
+}
+
+/* The same numbers whatever stands above the diagonal or behind the parts, of which nothing counts. */
+static void test_system_of_f(void) {
+    static const desk_system F = {
+        .last = 1, .closeness = 1, .own = {131073, 65537, 65537},
+        .matrix = {{131073, 0, 0}, {0, 98305, -32768}, {0, -32768, 98305}},
+        .right_hand = {1310730 * T, 131073 * T, -131073 * T},
+    };
+    static const desk_system NONE = {.refusal = {21, 0}};
+    desk_session s = opened_f(1);
+    for (int spoiled = 0; spoiled <= 1; spoiled++) {
+        const desk_session before = s;
+        const desk_system shown = desk_figures(&s);
+        EXPECT(memcmp(&shown, &F, sizeof F) == 0);
+        EXPECT(memcmp(&before, &s, sizeof s) == 0);
+        for (size_t k = 0; k < 31; k++) {
+            for (size_t l = k < 3 ? k + 1 : 0; l < 31; l++) s.matrix[31 * k + l] = INT64_MIN;
+            if (k >= 3) s.own[k] = UINT64_MAX, s.right_hand[k] = s.mean[k] = INT64_MIN;
+        }
+    }
+    s.held[1] = 65537; /* no session that a call leaves */
+    for (int closed = 0; closed <= 1; closed++) {
+        const desk_system shown = desk_figures(&s);
+        EXPECT(memcmp(&shown, &NONE, sizeof NONE) == 0);
+        desk_close(&s);
+    }
 }
 
 /* One field of F changed, and the refusal that this must give. */
@@ -143,6 +158,7 @@ static void test_nothing_open(void) {
         EXPECT_REFUSED(&s, desk_sweep(&s, 0).refusal, 21, 0);
         EXPECT_REFUSED(&s, desk_read(&s, buffer, sizeof buffer), 21, 0);
         EXPECT_REFUSED(&s, desk_read(&s, NULL, 0), 21, 0);
+        EXPECT_REFUSED(&s, desk_figures(&s).refusal, 21, 0);
         EXPECT(memcmp(buffer, untouched, sizeof buffer) == 0);
         s = opened_f(1);
         desk_close(&s);
@@ -316,6 +332,7 @@ static void expect_answers(desk_session *s) {
     desk_session before = *s;
     EXPECT(is_one_of(desk_judge(s, record, record_of(record, parts, 3)).refusal.number, JUDGE));
     EXPECT(is_one_of(desk_read(s, buffer, sizeof buffer).number, READ));
+    EXPECT((desk_figures(s).refusal.number == 21) == (desk_sweep(s, 0).refusal.number == 21));
     EXPECT(memcmp(&before, s, sizeof before) == 0);
     const desk_sweeping swept = desk_sweep(s, drawn() % DESK_MOST_SWEEPS + 1);
     EXPECT(is_one_of(swept.refusal.number, SWEEP));
@@ -365,6 +382,7 @@ int main(int count, char **arguments) {
     }
     RUN(test_sizes)();
     RUN(test_figures_of_f)();
+    RUN(test_system_of_f)();
     RUN(test_files_refused)();
     RUN(test_limits_are_taken)();
     RUN(test_nothing_open)();

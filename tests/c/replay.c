@@ -75,6 +75,24 @@ static int answers_read(const desk_session *s) {
     return refused;
 }
 
+static void print_numbers(const char *name, const int64_t *numbers, uint64_t count) {
+    printf("%s", name);
+    for (uint64_t k = 0; k < count; k++) printf(" %" PRId64, numbers[k]);
+    printf("\n");
+}
+
+static int answers_figures(const desk_session *s) {
+    const desk_system shown = desk_figures(s);
+    if (is_refused(shown.refusal)) return 1;
+    const uint64_t count = 2 * shown.last + 1;
+    printf("figures %" PRIu64 " %" PRIu64 "\nown", shown.last, shown.closeness);
+    for (uint64_t k = 0; k < count; k++) printf(" %" PRIu64, shown.own[k]);
+    printf("\n");
+    for (uint64_t k = 0; k < count; k++) print_numbers("row", shown.matrix[k], count);
+    print_numbers("right", shown.right_hand, count);
+    return 0;
+}
+
 static int answers_row(void) {
     string file;
     read_string(&file);
@@ -93,6 +111,7 @@ static int answers(int letter, desk_session *s) {
     case 'j': return answers_judge(s);
     case 's': return answers_sweep(s);
     case 'r': return answers_read(s);
+    case 'f': return answers_figures(s);
     case 'w': return answers_row();
     case 'c': desk_close(s); printf("closed\n"); return 0;
     default: stop("a letter is unknown");

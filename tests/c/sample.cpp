@@ -51,6 +51,16 @@ Bytes settled_record(desk_session *session) {
     return record;
 }
 
+// By the figures that the library shows, as a solver of one's own would judge it.
+void expect_passes(const desk_system &shown, const Bytes &record) {
+    for (std::size_t k = 0; k <= 2 * shown.last; k++) {
+        std::int64_t residue = -shown.right_hand[k];
+        for (std::size_t l = 0; l <= 2 * shown.last; l++) residue += shown.matrix[k][l] * field(record, 5 + 4 * l);
+        expect(std::llabs(residue) <= static_cast<long long>(shown.closeness * shown.own[k]), "each residue is at most e times D");
+        for (std::size_t l = 0; l < k; l++) expect(shown.matrix[k][l] == shown.matrix[l][k], "the matrix has both halves");
+    }
+}
+
 void print_parts(const char *name, const Bytes &record, std::size_t first, std::size_t count) {
     for (std::size_t k = 0; k < count; k++) {
         std::printf("%s %zu %ld\n", name, k, static_cast<long>(field(record, 5 + 4 * (first + k))));
@@ -69,10 +79,15 @@ int main(int count, char **arguments) {
     const std::size_t last = file[5];
     const Bytes record = settled_record(&session);
     expect_rows(file, last);
+    const desk_system shown = desk_figures(&session);
+    expect(shown.refusal.number == 0 && shown.last == last, "the figures of the open file are shown");
+    expect(shown.closeness == static_cast<std::uint64_t>(field(file, 6)), "so is its closeness");
+    expect_passes(shown, record);
     std::printf("J %zu\nsweeps %llu\n", last, static_cast<unsigned long long>(swept.total));
     print_parts("phi", record, 0, last + 1);
     print_parts("psi", record, last + 1, last);
     desk_close(&session);
     expect(desk_sweep(&session, 1).refusal.number == 21, "nothing is open after a close");
+    expect(desk_figures(&session).refusal.number == 21, "nothing is shown after a close");
     return 0;
 }

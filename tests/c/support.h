@@ -1,4 +1,5 @@
-/* What the tests of the C interface share: assertions that end the program at the first that fails, and files with J = 1. */
+/* What the tests of the C interface share: assertions that end the program at the first that fails, and files with J = 1,
+ * also opened. */
 #include "desk.h"
 
 #include <inttypes.h>
@@ -76,6 +77,18 @@ static void file_f(uint8_t file[F_LENGTH], uint64_t closeness) {
     const uint64_t prior_variances[3] = {UINT64_C(1) << 46, UINT64_C(1) << 46, UINT64_C(1) << 46};
     const uint64_t amounts[6] = {1 << 10, 1 << 11, 1 << 10, 1 << 12, 1 << 11, 1 << 12};
     file_of(file, closeness, variances, prior_means, prior_variances, amounts);
+}
+
+static desk_session opened(const uint8_t *file, size_t length) {
+    desk_session s = DESK_EMPTY;
+    EXPECT_DONE(desk_open(&s, file, length));
+    return s;
+}
+
+static desk_session opened_f(uint64_t closeness) {
+    uint8_t file[F_LENGTH];
+    file_f(file, closeness);
+    return opened(file, sizeof file);
 }
 
 /* The reference's spent_at_a_limit: phi 1 belongs near 66 doublings and is kept at 64, so its mean never passes. */

@@ -8,9 +8,10 @@ use lib.ListN.{getD}
 use Rattle.definitions.specs.Layout.{Bytes, lastYear}
 use Rattle.definitions.specs.Refusals.{clear, refuses, rowCheck}
 use Rattle.definitions.specs.Matrix as D
-use Rattle.definitions.specs.Machine.{Answer, refused, rowPart}
+use Rattle.definitions.specs.Machine.{Answer, refused, State, empty, holds, rowPart}
 use Rattle.laws.specs.Numbers as N
 use Rattle.laws.specs.Rows.{row-inside, row-some, row-shown}
+use Rattle.chain.specs.Arrays.{figuresAt}
 use Rattle.readings.specs.declared.rows.RowPlace.{RowPlace}
 use Rattle.readings.specs.Rows.{Places}
 use Rattle.session.specs.declared.Session.{Session}
@@ -22,16 +23,20 @@ use Rattle.session.specs.declared.answers.SweepAnswer.{SweepAnswer}
 use Rattle.session.specs.declared.answers.SweepAnswer.the-variants as S
 use Rattle.session.specs.declared.answers.ReadAnswer.{ReadAnswer}
 use Rattle.session.specs.declared.answers.ReadAnswer.the-variants as R
+use Rattle.session.specs.declared.answers.FiguresAnswer.{FiguresAnswer}
+use Rattle.session.specs.declared.answers.FiguresAnswer.the-variants as F
+use Rattle.session.specs.declared.answers.Showing.{Showing}
 use Rattle.session.specs.State.{stateOf}
 use Rattle.session.specs.StateLaws.{stateOf-empty}
 use Rattle.session.specs.Calls as C
-use Rattle.session.specs.Calls.{ofOpen, ofJudge, ofSweep, ofRead}
+use Rattle.session.specs.Calls.{ofOpen, ofJudge, ofSweep, ofRead, showsTo, FiguresOf}
 use Rattle.desk.specs.declared.answers.Refusal.{Refusal}
 use Rattle.desk.specs.declared.answers.Judged.{Judged}
 use Rattle.desk.specs.declared.answers.Swept.{Swept}
 use Rattle.desk.specs.declared.answers.RowShown.{RowShown}
-use Rattle.desk.specs.Told.{none, told, refusalTold, judgeTold, sweepTold, rowTold}
-use Rattle.desk.specs.Calls.{Numbered, Opens, Judges, Sweeps, Reads, Closes, ShowsRow}
+use Rattle.desk.specs.declared.answers.System.{System}
+use Rattle.desk.specs.Told.{none, told, refusalTold, judgeTold, sweepTold, rowTold, figuresTold, systemTold}
+use Rattle.desk.specs.Calls.{Numbered, Opens, Judges, Sweeps, Reads, Shows, Closes, ShowsRow}
 
 never-0 : {a : Answer} → N.NumberedAnswer a → Numbered a
 never-0 some place e = let none : 1 ≤ 0 = subst N.NumberedAnswer e some in omega arith
@@ -120,6 +125,27 @@ reads-told s before a after h {r} e = record {
     is-written R.Written same none = refl
     is-written (R.Refused number place) same none =
         absurd (numbered place (sym same ∙ ap (λ n. refused n place) none))
+
+-- ---- figures
+
+shown-refused : {place : ℕ} → _≡_ {A = FiguresAnswer} F.Shown (F.Refused 0 place) → ⊥
+shown-refused e = let z : _≡_ {A = ℕ} 0 1 = cc in omega arith
+
+shown-numbered : (st : State D.Figures) (place : ℕ) → showsTo st .answer ≢ F.Refused 0 place
+unfolding showsTo
+shown-numbered empty place e = let none : _≡_ {A = ℕ} 21 0 = ap (λ x. figuresTold x .number) e in omega arith
+shown-numbered (holds F μ total) place e = shown-refused e
+
+pub shows-told : (s : Session) (a : Showing) → C.Shows s a → {r : System} → r ≡ systemTold a → Shows s r
+shows-told s a h {r} e = record {
+  told = e ∙ ap systemTold (h .shown);
+  numbered = shown-numbered (stateOf s);
+  of-file = λ f μ total open-file.
+      let of = h .of-file f μ total open-file in (
+        ap (λ x. x .refusal .number) e ∙ ap (λ x. figuresTold x .number) (of .0),
+        subst (λ x. FiguresOf f (figuresAt (x .last) (x .closeness) (x .own) (x .matrix) (x .«right_hand»))) (sym e) (of .1),
+      );
+}
 
 -- ---- close
 

@@ -13,14 +13,17 @@ use Rattle.definitions.specs.Refusals.{clear, refuses, rowCheck, recordCheck}
 use Rattle.definitions.specs.Sweep.{sweepLimit}
 use Rattle.definitions.specs.Machine.{Answer, refused, empty, rowPart}
 use Rattle.definitions.specs.Guarantee.{Guarantee, Rounded}
+use Rattle.chain.specs.Arrays.{figuresAt}
 use Rattle.session.specs.declared.Session.{Session}
+use Rattle.session.specs.declared.answers.FiguresAnswer.the-variants.{Refused}
 use Rattle.session.specs.State.{stateOf, sessionHeld}
-use Rattle.session.specs.Calls.{opensTo, judgesTo, sweepsTo, readsTo, HoldsFile}
+use Rattle.session.specs.Calls.{opensTo, judgesTo, sweepsTo, readsTo, showsTo, HoldsFile, FiguresOf}
 use Rattle.desk.specs.declared.answers.Refusal.{Refusal}
 use Rattle.desk.specs.declared.answers.Judged.{Judged}
 use Rattle.desk.specs.declared.answers.Swept.{Swept}
 use Rattle.desk.specs.declared.answers.RowShown.{RowShown}
-use Rattle.desk.specs.Told.{refusalTold, judgeTold, sweepTold, rowTold}
+use Rattle.desk.specs.declared.answers.System.{System}
+use Rattle.desk.specs.Told.{refusalTold, judgeTold, sweepTold, rowTold, systemTold}
 
 -- no refusal has the number 0, so that 0 says that there is none
 abbrev pub Numbered : Answer → Type 0
@@ -55,6 +58,12 @@ pub record Reads (s : Session) (before : Bytes) (r : Refusal) (after : Bytes) : 
   pub numbered : Numbered (readsTo (stateOf s) before .answer)
   pub buffer : after ≡ readsTo (stateOf s) before .buffer
   pub worth : (f : Bytes) (μ : List ℤ) (total : ℕ) → HoldsFile s f μ total → r .number ≡ 0 → Guarantee f (part μ)
+
+pub record Shows (s : Session) (r : System) : Type 0 where
+  pub told : r ≡ systemTold (showsTo (stateOf s))
+  pub numbered : (place : ℕ) → showsTo (stateOf s) .answer ≢ Refused 0 place
+  pub of-file : (f : Bytes) (μ : List ℤ) (total : ℕ) → HoldsFile s f μ total
+      → (r .refusal .number ≡ 0) × FiguresOf f (figuresAt (r .last) (r .closeness) (r .own) (r .matrix) (r .«right_hand»))
 
 -- nothing is open, whatever the other arrays hold
 abbrev pub Closes : List ℕ → Type 0

@@ -1,29 +1,35 @@
 -- What C is told, case by case and in plain numbers, as include/desk.h has it;
 -- and what C's callers can count on, each drawn from the contract of a call alone.
-use Prim.Native.Nat.{ℕ, _+_, _≤_}
+use Prim.Native.Nat.{ℕ, _+_, _*_, _≤_, _<_}
 use mathlib.Core.Path.{_≡_, refl, ap, _∙_}
 use mathlib.Core.Logic.{_≢_}
 use mathlib.Core.Bool.{true}
-use mathlib.Core.List.{List}
+use mathlib.Core.List.{List, [], _∷_}
 use native.Mathlib.Omega.{arith}
-use lib.IntN.{ℤ}
-use lib.ListN.{length, take, drop}
+use lib.IntN.{ℤ, pos, negsuc}
+use lib.ListN.{length, getD, take, drop}
 use Rattle.definitions.specs.Words.{within, part}
 use Rattle.definitions.specs.Layout.{Bytes, lastYear, closeness, rowStart, meanOf}
 use Rattle.definitions.specs.Refusals.{clear, refuses, rowCheck, recordCheck}
-use Rattle.definitions.specs.Matrix.{passed, fails}
-use Rattle.definitions.specs.Machine.{refused, opened, judged, settled, going, written, empty, rowPart}
+use Rattle.definitions.specs.Observations.{chainOf}
+use Rattle.definitions.specs.Matrix.{passed, fails, Figures, entry, own, matrix, rightHand}
+use Rattle.definitions.specs.Machine.{refused, opened, judged, settled, going, written, empty, holds, rowPart}
 use Rattle.integers.specs.Summation.{total}
+use Rattle.laws.specs.Judged.{tab-at}
 use Rattle.laws.specs.Pinned.{Worth, worth, Near, rounded}
+use Rattle.chain.specs.Arrays.{figuresAt}
 use Rattle.session.specs.declared.Session.{Session}
+use Rattle.session.specs.declared.answers.FiguresAnswer.the-variants.{Shown, Refused}
 use Rattle.session.specs.State.{stateOf, sessionHeld}
-use Rattle.session.specs.Calls.{opensTo, judgesTo, sweepsTo, readsTo, HoldsFile}
+use Rattle.session.specs.Calls.{opensTo, judgesTo, sweepsTo, readsTo, showsTo, HoldsFile}
+use Rattle.session.specs.ShowLaws.{entry-at}
 use Rattle.desk.specs.declared.answers.Refusal.{Refusal}
 use Rattle.desk.specs.declared.answers.Judged.{Judged}
 use Rattle.desk.specs.declared.answers.Swept.{Swept}
 use Rattle.desk.specs.declared.answers.RowShown.{RowShown}
-use Rattle.desk.specs.Told.{refusalTold, judgeTold, sweepTold, rowTold}
-use Rattle.desk.specs.Calls.{Opens, Judges, Sweeps, Reads, Closes, ShowsRow}
+use Rattle.desk.specs.declared.answers.System.{System}
+use Rattle.desk.specs.Told.{refusalTold, judgeTold, sweepTold, rowTold, systemTold}
+use Rattle.desk.specs.Calls.{Opens, Judges, Sweeps, Reads, Shows, Closes, ShowsRow}
 
 abbrev refusal : ℕ → ℕ → Refusal
 refusal number place = record { number = number; place = place }
@@ -40,6 +46,9 @@ pub record Pinned : Type 0 where
   pub spent-sweeps : sweepTold (refused 23 0) ≡ record { refusal = refusal 23 0; settled = 0; total = 0 }
   -- File F's incurred amounts of year 0
   pub shown-row : rowTold 1 1 0 clear ≡ record { refusal = refusal 0 0; start = 94; length = 16 }
+  pub shown-system : systemTold (record { answer = Shown; figures = figuresAt 1 2 (3 ∷ []) (negsuc 4 ∷ []) (pos 6 ∷ []) })
+      ≡ record { refusal = refusal 0 0; last = 1; closeness = 2; own = 3 ∷ []; matrix = negsuc 4 ∷ []; «right_hand» = pos 6 ∷ [] }
+  pub refused-system : systemTold (record { answer = Refused 21 0; figures = figuresAt 0 0 [] [] [] }) .refusal ≡ refusal 21 0
   pub refused-row : rowTold 1 1 2 (refuses 15 0) ≡ record { refusal = refusal 15 0; start = 0; length = 0 }
 
 pub pinned : Pinned
@@ -55,6 +64,8 @@ pinned = record {
   going-mean = refl;
   spent-sweeps = refl;
   shown-row = refl;
+  shown-system = refl;
+  refused-system = refl;
   refused-row = refl;
 }
 
@@ -108,6 +119,55 @@ module _ (s : Session) (lent : Bytes) where
 
     pub read-done : readsTo (stateOf s) lent .answer ≢ refused 0 0
     read-done = call .numbered 0
+
+module _ (s : Session) (r : System) (call : Shows s r) where
+  pub none-shown : stateOf s ≡ empty
+      → (r .refusal ≡ refusal 21 0) × (r .last ≡ 0) × (getD (r .own) 30 0 ≡ 0) × (part (r .matrix) 960 ≡ pos 0)
+  unfolding showsTo
+  none-shown none =
+      let e = call .told ∙ ap (λ st. systemTold (showsTo st)) none in
+      (ap (λ x. x .refusal) e, ap (λ x. x .last) e, ap (λ x. getD (x .own) 30 0) e, ap (λ x. part (x .matrix) 960) e)
+
+  pub figures-done : showsTo (stateOf s) .answer ≢ Refused 0 0
+  figures-done = call .numbered 0
+
+  module _ (F : Figures) (μ : List ℤ) (count : ℕ) (some : stateOf s ≡ holds F μ count) where
+    e : r ≡ systemTold (showsTo (holds F μ count))
+    e = call .told ∙ ap (λ st. systemTold (showsTo st)) some
+
+    pub shown-numbers : (r .refusal ≡ refusal 0 0) × (r .last ≡ F .last) × (r .closeness ≡ F .closeness)
+    unfolding showsTo
+    shown-numbers = (ap (λ x. x .refusal) e, ap (λ x. x .last) e, ap (λ x. x .closeness) e)
+
+    pub shown-own : (k : ℕ) → k < 31 → getD (r .own) k 0 ≡ getD (F .own) k 0
+    unfolding showsTo
+    shown-own k below = ap (λ x. getD (x .own) k 0) e ∙ tab-at 31 (λ i. getD (F .own) i 0) k 0 below
+
+    -- in both halves
+    pub shown-entry : (k l : ℕ) → k < 31 → l < 31 → part (r .matrix) (31 * k + l) ≡ entry F k l
+    unfolding showsTo
+    shown-entry k l k-below l-below = ap (λ x. part (x .matrix) (31 * k + l)) e ∙ entry-at F k l k-below l-below
+
+    pub shown-right-hand : (k : ℕ) → k < 31 → part (r .«right_hand») k ≡ part (F .rightHand) k
+    unfolding showsTo
+    shown-right-hand k below = ap (λ x. part (x .«right_hand») k) e ∙ tab-at 31 (part (F .rightHand)) k (pos 0) below
+
+  -- of a file with two accident years
+  module _ (f : Bytes) (μ : List ℤ) (count : ℕ) (open-file : HoldsFile s f μ count) (two : lastYear f ≡ 1) where
+    pub shown-of-file :
+        (r .refusal .number ≡ 0) × (r .last ≡ 1) × (r .closeness ≡ closeness f)
+        × (getD (r .own) 2 0 ≡ own (chainOf f) 2) × (part (r .«right_hand») 2 ≡ rightHand (chainOf f) 2)
+        × (part (r .matrix) 33 ≡ matrix (chainOf f) 1 2) × (part (r .matrix) 63 ≡ matrix (chainOf f) 2 1)
+    shown-of-file =
+        let h = call .of-file f μ count open-file in (
+          h .0,
+          h .1 .last ∙ two,
+          h .1 .close,
+          h .1 .own 2 (omega (arith, two)),
+          h .1 .right-hand 2 (omega (arith, two)),
+          h .1 .matrix 1 2 (omega (arith, two)) (omega (arith, two)),
+          h .1 .matrix 2 1 (omega (arith, two)) (omega (arith, two)),
+        )
 
 module _ (file : Bytes) (channel year : ℕ) (r : RowShown) (call : ShowsRow file channel year r) where
   pub row-told : rowCheck file channel year ≡ refuses 15 0 → r ≡ record { refusal = refusal 15 0; start = 0; length = 0 }

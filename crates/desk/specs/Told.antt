@@ -4,10 +4,15 @@ use Rattle.definitions.specs.Layout.{rowAt, rowLength}
 use Rattle.definitions.specs.Refusals.{Check, clear, refuses}
 use Rattle.definitions.specs.Matrix.{passed, fails}
 use Rattle.definitions.specs.Machine.{Answer, refused, opened, judged, settled, going, written, part-shown, row-is-shown, closed}
+use Rattle.chain.specs.declared.arrays.Figures.{Figures}
+use Rattle.session.specs.declared.answers.FiguresAnswer.{FiguresAnswer}
+use Rattle.session.specs.declared.answers.FiguresAnswer.the-variants.{Shown, Refused}
+use Rattle.session.specs.declared.answers.Showing.{Showing}
 use Rattle.desk.specs.declared.answers.Refusal.{Refusal}
 use Rattle.desk.specs.declared.answers.Judged.{Judged}
 use Rattle.desk.specs.declared.answers.Swept.{Swept}
 use Rattle.desk.specs.declared.answers.RowShown.{RowShown}
+use Rattle.desk.specs.declared.answers.System.{System}
 
 abbrev pub none : Refusal
 none = record { number = 0; place = 0 }
@@ -49,3 +54,21 @@ sweepTold a = record { refusal = refusalTold a; settled = told a .passing; total
 abbrev pub rowTold : ℕ → ℕ → ℕ → Check → RowShown
 rowTold J channel year clear = record { refusal = none; start = rowAt J channel year; length = rowLength J year }
 rowTold J channel year (refuses number place) = record { refusal = record { number = number; place = place }; start = 0; length = 0 }
+
+-- the figures of a session, or why they are not shown
+abbrev pub figuresTold : FiguresAnswer → Refusal
+figuresTold Shown = none
+figuresTold (Refused number place) = record { number = number; place = place }
+
+abbrev pub systemOf : Refusal → Figures → System
+systemOf refusal F = record {
+  refusal = refusal;
+  last = F .last;
+  closeness = F .closeness;
+  own = F .own;
+  matrix = F .matrix;
+  «right_hand» = F .«right_hand»;
+}
+
+abbrev pub systemTold : Showing → System
+systemTold shown = systemOf (figuresTold (shown .answer)) (shown .figures)

@@ -1,10 +1,12 @@
 // The answers as C sees them. A refusal's number is never 0, so 0 says that the call did its job.
 ghost use mathlib.Core.Path.{_≡_};
 ghost use Rattle.session.specs.Calls.{ofOpen, ofJudge, ofSweep, ofRead};
-ghost use Rattle.desk.specs.Told.{refusalTold, judgeTold, sweepTold};
+ghost use Rattle.desk.specs.Told.{refusalTold, judgeTold, sweepTold, figuresTold, systemTold};
+use session::answers::FiguresAnswer;
 use session::answers::JudgeAnswer;
 use session::answers::OpenAnswer;
 use session::answers::ReadAnswer;
+use session::answers::Showing;
 use session::answers::SweepAnswer;
 
 #[repr(C)]
@@ -35,6 +37,17 @@ pub struct RowShown {
     pub refusal: Refusal,
     pub start: u64,
     pub length: u64,
+}
+
+// The figures of the open file, in arrays of the largest size: row k, column l of the matrix at 31·k + l.
+#[repr(C)]
+pub struct System {
+    pub refusal: Refusal,
+    pub last: u64,
+    pub closeness: u64,
+    pub own: [u64; 31],
+    pub matrix: [i64; 961],
+    pub right_hand: [i64; 31],
 }
 
 pub fn refusal_of(number: u64, place: usize) -> Refusal
@@ -109,5 +122,33 @@ pub fn read_told(a: ReadAnswer) -> Refusal
     match a {
         ReadAnswer::Written => refusal_of(0, 0),
         ReadAnswer::Refused(number, place) => refusal_of(number, place),
+    }
+}
+
+fn figures_told(a: FiguresAnswer) -> Refusal
+    ensures { λ r. ⌜ r ≡ figuresTold a ⌝ }
+{
+    match a {
+        FiguresAnswer::Shown => refusal_of(0, 0),
+        FiguresAnswer::Refused(number, place) => refusal_of(number, place),
+    }
+}
+
+pub fn system_told(shown: Showing) -> System
+    ensures { λ r. ⌜ r ≡ systemTold shown ⌝ }
+{
+    let answer = shown.answer;
+    let refusal = figures_told(answer);
+    let figures = shown.figures;
+    let own = figures.own;
+    let matrix = figures.matrix;
+    let right_hand = figures.right_hand;
+    System {
+        refusal: refusal,
+        last: figures.last as u64,
+        closeness: figures.closeness,
+        own: own,
+        matrix: matrix,
+        right_hand: right_hand,
     }
 }

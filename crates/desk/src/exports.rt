@@ -1,17 +1,20 @@
 // What C calls. `held` has J (0 while nothing is open), the closeness and the sweeps run since open.
 ghost use Rattle.session.specs.State.{sessionHeld};
-ghost use Rattle.desk.specs.Calls.{Opens, Judges, Sweeps, Reads, Closes, ShowsRow};
+ghost use Rattle.desk.specs.Calls.{Opens, Judges, Sweeps, Reads, Shows, Closes, ShowsRow};
 use crate::answers::Judged;
 use crate::answers::Refusal;
 use crate::answers::RowShown;
 use crate::answers::Swept;
+use crate::answers::System;
 use crate::answers::judge_told;
 use crate::answers::open_told;
 use crate::answers::read_told;
 use crate::answers::sweep_told;
+use crate::answers::system_told;
 use layout::checks::Check;
 use readings::rows::row_place;
 use readings::rows::row_told;
+use session::lent::figures_lent;
 use session::lent::judge_lent;
 use session::lent::open_lent;
 use session::lent::read_lent;
@@ -117,6 +120,30 @@ pub extern "C" fn desk_read_lent<'a>(
         right_hand,
         mean,
         buffer,
+    ))
+}
+
+// 21.
+#[no_mangle]
+pub extern "C" fn desk_figures_lent<'a>(
+    held: &'a [u64; 3],
+    own: &'a [u64; 31],
+    matrix: &'a [i64; 961],
+    right_hand: &'a [i64; 31],
+    mean: &'a [i64; 31],
+) -> System
+    ensures { λ r. ⌜ Shows
+        (sessionHeld (now (held .entry)) (now (own .entry)) (now (matrix .entry)) (now («right_hand» .entry)) (now (mean .entry)))
+        r ⌝ }
+{
+    system_told(figures_lent(
+        held[0] as usize,
+        held[1],
+        held[2],
+        own,
+        matrix,
+        right_hand,
+        mean,
     ))
 }
 

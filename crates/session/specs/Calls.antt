@@ -1,20 +1,24 @@
 -- The contracts of the calls: each answer, and the state and buffer afterwards, are the machine's; a refused call gives back the
 -- very session that it took; and the caller is told both halves of demand 3, what a mean that passes is worth and which must pass.
-use Prim.Native.Nat.{ℕ}
+-- The call `figures` is none of document 01's: what it shows of the machine's state is defined here.
+use Prim.Native.Nat.{ℕ, _+_, _*_, _/_, _%_, _<_}
 use mathlib.Core.Path.{_≡_}
 use mathlib.Core.Bool.{true}
 use mathlib.Core.List.{List}
-use lib.IntN.{ℤ}
-use Rattle.definitions.specs.Words.{within, part}
-use Rattle.definitions.specs.Layout.{Bytes, lastYear, meanOf}
+use lib.IntN.{ℤ, pos}
+use lib.ListN.{getD, replicate}
+use Rattle.definitions.specs.Words.{within, part, tabFrom}
+use Rattle.definitions.specs.Layout.{Bytes, lastYear, closeness, parts, meanOf}
 use Rattle.definitions.specs.Refusals.{clear, recordCheck}
 use Rattle.definitions.specs.Sweep.{sweepLimit}
 use Rattle.definitions.specs.Matrix as D
-use Rattle.definitions.specs.Matrix.{passed, fails}
+use Rattle.definitions.specs.Matrix.{passed, fails, entry}
 use Rattle.definitions.specs.Machine as M
-use Rattle.definitions.specs.Machine.{Answer, opened, judged, settled, going, written, State, holds, Outcome, accepted}
+use Rattle.definitions.specs.Machine.{Answer, opened, judged, settled, going, written, State, empty, holds, Outcome, accepted}
 use Rattle.definitions.specs.Machine.{openCall, judgeCall, sweepCall, readCall}
+use Rattle.definitions.specs.Observations.{chainOf}
 use Rattle.definitions.specs.Guarantee.{Guarantee, Rounded}
+use Rattle.chain.specs.declared.arrays.Figures.{Figures}
 use Rattle.session.specs.declared.Session.{Session}
 use Rattle.session.specs.declared.answers.OpenAnswer.{OpenAnswer}
 use Rattle.session.specs.declared.answers.OpenAnswer.the-variants.{Opened, Refused as OpenRefused}
@@ -24,7 +28,9 @@ use Rattle.session.specs.declared.answers.SweepAnswer.{SweepAnswer}
 use Rattle.session.specs.declared.answers.SweepAnswer.the-variants.{Settled, Going, Refused as SweepRefused}
 use Rattle.session.specs.declared.answers.ReadAnswer.{ReadAnswer}
 use Rattle.session.specs.declared.answers.ReadAnswer.the-variants.{Written, Refused as ReadRefused}
+use Rattle.session.specs.declared.answers.FiguresAnswer.the-variants.{Shown, Refused as FiguresRefused}
 use Rattle.session.specs.declared.answers.Opening.{Opening}
+use Rattle.session.specs.declared.answers.Showing.{Showing}
 use Rattle.session.specs.declared.answers.Sweeping.{Sweeping}
 use Rattle.session.specs.State.{stateOf}
 
@@ -61,6 +67,31 @@ sweepsTo = sweepCall D.Figures D.figuresOf (λ F. F)
 
 abbrev pub readsTo : State D.Figures → Bytes → Outcome D.Figures
 readsTo = readCall D.Figures D.figuresOf (λ F. F)
+
+-- ---- what is shown of a state's figures
+
+-- Each array has 0 behind its parts; row k, column l of the matrix is at 31·k + l.
+abbrev pub inArrays : D.Figures → Figures
+inArrays F = record {
+  last = F .last;
+  closeness = F .closeness;
+  own = tabFrom 0 31 (λ k. getD (F .own) k 0);
+  matrix = tabFrom 0 961 (λ c. entry F (c / 31) (c % 31));
+  «right_hand» = tabFrom 0 31 (part (F .rightHand));
+}
+
+abbrev pub noFigures : Figures
+noFigures = record {
+  last = 0;
+  closeness = 0;
+  own = replicate 31 0;
+  matrix = replicate 961 (pos 0);
+  «right_hand» = replicate 31 (pos 0);
+}
+
+unfoldable pub showsTo : State D.Figures → Showing
+showsTo empty = record { answer = FiguresRefused 21 0; figures = noFigures }
+showsTo (holds F μ total) = record { answer = Shown; figures = inArrays F }
 
 -- ---- contracts
 
@@ -99,3 +130,16 @@ pub record Reads (s : Session) (before : Bytes) (r : ReadAnswer) (after : Bytes)
   pub buffer : after ≡ readsTo (stateOf s) before .buffer
   -- the mean that is written
   pub worth : (f : Bytes) (μ : List ℤ) (total : ℕ) → HoldsFile s f μ total → r ≡ Written → Guarantee f (part μ)
+
+-- the figures of a file, part by part
+pub record FiguresOf (f : Bytes) (F : Figures) : Type 0 where
+  pub last : F .last ≡ lastYear f
+  pub close : F .closeness ≡ closeness f
+  pub own : (k : ℕ) → k < parts (lastYear f) → getD (F .own) k 0 ≡ D.own (chainOf f) k
+  pub matrix : (k l : ℕ) → k < parts (lastYear f) → l < parts (lastYear f) → part (F .matrix) (31 * k + l) ≡ D.matrix (chainOf f) k l
+  pub right-hand : (k : ℕ) → k < parts (lastYear f) → part (F .«right_hand») k ≡ D.rightHand (chainOf f) k
+
+pub record Shows (s : Session) (r : Showing) : Type 0 where
+  pub shown : r ≡ showsTo (stateOf s)
+  -- the very figures that judge the means of an open file
+  pub of-file : (f : Bytes) (μ : List ℤ) (total : ℕ) → HoldsFile s f μ total → (r .answer ≡ Shown) × FiguresOf f (r .figures)

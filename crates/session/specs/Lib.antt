@@ -5,11 +5,13 @@ pub mod StateLaws
 pub mod Fitted
 pub mod Diagonal
 pub mod Calls
+pub mod Shown
 pub mod Worth
 pub mod OpenLaws
 pub mod JudgeLaws
 pub mod SweepLaws
 pub mod ReadLaws
+pub mod ShowLaws
 pub mod Pinned
 pub mod MeanOfRecord
 pub mod SweepCall

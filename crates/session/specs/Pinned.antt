@@ -1,14 +1,17 @@
 -- What callers can count on, in plain numbers, each drawn from the contract of a call alone.
-use Prim.Native.Nat.{ℕ, _≤_}
+use Prim.Native.Nat.{ℕ, _+_, _*_, _≤_, _<_}
 use mathlib.Core.Path.{_≡_, refl, ap, _∙_}
 use mathlib.Core.List.{List}
 use native.Mathlib.Omega.{arith}
-use lib.IntN.{ℤ}
+use lib.IntN.{ℤ, pos}
+use lib.ListN.{getD}
 use Rattle.definitions.specs.Words.{tabFrom, part}
 use Rattle.definitions.specs.Layout.{Bytes, lastYear, parts, priorMean, closeness, meanOf}
 use Rattle.definitions.specs.Refusals.{Check, clear, refuses, recordCheck}
-use Rattle.definitions.specs.Matrix.{Figures, figuresOf}
-use Rattle.definitions.specs.Machine.{Answer, opened, refused, empty, Outcome, isClear, openCheck, openUnless, openCall}
+use Rattle.definitions.specs.Observations.{chainOf}
+use Rattle.definitions.specs.Matrix.{Figures, figuresOf, entry, own, matrix, rightHand}
+use Rattle.definitions.specs.Machine.{Answer, opened, refused, empty, holds, Outcome, isClear, openCheck, openUnless, openCall}
+use Rattle.laws.specs.Judged.{tab-at}
 use Rattle.laws.specs.Pinned.{Worth, worth, Near, rounded}
 use Rattle.layout.specs.CheckLaws.{within-yes}
 use Rattle.session.specs.declared.Session.{Session}
@@ -19,8 +22,11 @@ use Rattle.session.specs.declared.answers.OpenAnswer.the-variants.{Opene
 use Rattle.session.specs.declared.answers.SweepAnswer.the-variants.{Settled, Refused as SweepRefused}
 use Rattle.session.specs.declared.answers.ReadAnswer.{ReadAnswer}
 use Rattle.session.specs.declared.answers.ReadAnswer.the-variants.{Written}
+use Rattle.session.specs.declared.answers.FiguresAnswer.the-variants.{Shown, Refused as FiguresRefused}
+use Rattle.session.specs.declared.answers.Showing.{Showing}
 use Rattle.session.specs.State.{stateOf}
-use Rattle.session.specs.Calls.{opensTo, HoldsFile, Opens, Judges, Sweeps, Reads}
+use Rattle.session.specs.Calls.{opensTo, showsTo, HoldsFile, Opens, Judges, Sweeps, Reads, Shows}
+use Rattle.session.specs.ShowLaws.{entry-at}
 
 module _ (f : Bytes) (s : Session) (μ : List ℤ) (count : ℕ) (open-file : HoldsFile s f μ count) where
   module _ (r : Bytes) {a : JudgeAnswer} (call : Judges s r a) where
@@ -68,3 +74,49 @@ opened-holds s t f none call =
         → HoldsFile t f (tabFrom 0 (parts (lastYear f)) (priorMean f)) 0
     by-check clear e a st = record { file = ap isClear e; state = st }
     by-check (refuses number place) e a st = absurd (opened-refused a)
+
+-- ---- what is shown of a session
+
+module _ (s : Session) (r : Showing) (call : Shows s r) where
+  pub none-shown : stateOf s ≡ empty → (r .answer ≡ FiguresRefused 21 0) × (r .figures .last ≡ 0) × (part (r .figures .matrix) 960 ≡ pos 0)
+  unfolding showsTo
+  none-shown none =
+      let e = call .shown ∙ ap showsTo none in
+      (ap (λ x. x .answer) e, ap (λ x. x .figures .last) e, ap (λ x. part (x .figures .matrix) 960) e)
+
+  module _ (F : Figures) (μ : List ℤ) (count : ℕ) (some : stateOf s ≡ holds F μ count) where
+    e : r ≡ showsTo (holds F μ count)
+    e = call .shown ∙ ap showsTo some
+
+    pub shown-numbers : (r .answer ≡ Shown) × (r .figures .last ≡ F .last) × (r .figures .closeness ≡ F .closeness)
+    unfolding showsTo
+    shown-numbers = (ap (λ x. x .answer) e, ap (λ x. x .figures .last) e, ap (λ x. x .figures .closeness) e)
+
+    pub shown-own : (k : ℕ) → k < 31 → getD (r .figures .own) k 0 ≡ getD (F .own) k 0
+    unfolding showsTo
+    shown-own k below = ap (λ x. getD (x .figures .own) k 0) e ∙ tab-at 31 (λ i. getD (F .own) i 0) k 0 below
+
+    -- in both halves
+    pub shown-entry : (k l : ℕ) → k < 31 → l < 31 → part (r .figures .matrix) (31 * k + l) ≡ entry F k l
+    unfolding showsTo
+    shown-entry k l k-below l-below = ap (λ x. part (x .figures .matrix) (31 * k + l)) e ∙ entry-at F k l k-below l-below
+
+    pub shown-right-hand : (k : ℕ) → k < 31 → part (r .figures .«right_hand») k ≡ part (F .rightHand) k
+    unfolding showsTo
+    shown-right-hand k below = ap (λ x. part (x .figures .«right_hand») k) e ∙ tab-at 31 (part (F .rightHand)) k (pos 0) below
+
+  -- of a file with two accident years
+  module _ (f : Bytes) (μ : List ℤ) (count : ℕ) (open-file : HoldsFile s f μ count) (two : lastYear f ≡ 1) where
+    pub shown-of-file :
+        (r .answer ≡ Shown) × (r .figures .last ≡ 1) × (r .figures .closeness ≡ closeness f)
+        × (getD (r .figures .own) 2 0 ≡ own (chainOf f) 2) × (part (r .figures .«right_hand») 2 ≡ rightHand (chainOf f) 2)
+        × (part (r .figures .matrix) 33 ≡ matrix (chainOf f) 1 2) × (part (r .figures .matrix) 63 ≡ matrix (chainOf f) 2 1)
+    shown-of-file = let h = call .of-file f μ count open-file in (
+      h .0,
+      h .1 .last ∙ two,
+      h .1 .close,
+      h .1 .own 2 (omega (arith, two)),
+      h .1 .right-hand 2 (omega (arith, two)),
+      h .1 .matrix 1 2 (omega (arith, two)) (omega (arith, two)),
+      h .1 .matrix 2 1 (omega (arith, two)) (omega (arith, two)),
+    )

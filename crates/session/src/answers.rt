@@ -1,5 +1,6 @@
 // What the calls answer. A refusal has document 01's number and place.
 use crate::Session;
+use chain::arrays::Figures;
 
 pub enum OpenAnswer {
     Opened,
@@ -25,6 +26,11 @@ pub enum ReadAnswer {
     Refused(u64, usize),
 }
 
+pub enum FiguresAnswer {
+    Shown,
+    Refused(u64, usize),
+}
+
 // An answer, with the session afterwards.
 pub struct Opening {
     pub answer: OpenAnswer,
@@ -34,4 +40,10 @@ pub struct Opening {
 pub struct Sweeping {
     pub answer: SweepAnswer,
     pub session: Session,
+}
+
+// An answer, with the figures that are shown: the matrix whole, and zeros outside the parts 0..2J. All are 0 where it is refused.
+pub struct Showing {
+    pub answer: FiguresAnswer,
+    pub figures: Figures,
 }

@@ -2,12 +2,14 @@
 ghost use mathlib.Core.Path.{_≡_};
 ghost use Rattle.definitions.specs.Machine.{State};
 ghost use Rattle.session.specs.State.{stateOf};
-ghost use Rattle.session.specs.Calls.{Opens, Judges, Sweeps, Reads};
+ghost use Rattle.session.specs.Calls.{Opens, Judges, Sweeps, Reads, Shows};
 use crate::Session;
 use crate::answers::JudgeAnswer;
 use crate::answers::Opening;
 use crate::answers::ReadAnswer;
+use crate::answers::Showing;
 use crate::answers::Sweeping;
+use crate::lent::figures_lent;
 use crate::lent::judge_lent;
 use crate::lent::open_lent;
 use crate::lent::read_lent;
@@ -108,6 +110,21 @@ pub fn read(s: Session, buffer: &mut [u8]) -> ReadAnswer
         &s.figures.right_hand,
         &s.mean,
         buffer,
+    )
+}
+
+// 21. The figures that judge and sweep go by, the matrix whole.
+pub fn figures(s: Session) -> Showing
+    ensures { λ r. ⌜ Shows s r ⌝ }
+{
+    figures_lent(
+        s.figures.last,
+        s.figures.closeness,
+        s.total,
+        &s.figures.own,
+        &s.figures.matrix,
+        &s.figures.right_hand,
+        &s.mean,
     )
 }
 

@@ -1,15 +1,22 @@
 // The calls over a session whose arrays are lent: the figures of the file (J, closeness, own weights, matrix and right-hand side),
 // the mean and the sweeps run since open. A call that is not refused changes what it is lent by `&mut` and nothing else.
 ghost use Rattle.session.specs.State.{sessionAt, sessionHeld};
-ghost use Rattle.session.specs.Calls.{Opens, Judges, Sweeps, Reads};
+ghost use Rattle.session.specs.Calls.{Opens, Judges, Sweeps, Reads, Shows};
 ghost use Rattle.session.specs.SweepCall.{OpenSweep};
 ghost use Rattle.session.specs.Diagonal.{OfDiagonal, DiagonalOf};
+use crate::answers::FiguresAnswer;
 use crate::answers::JudgeAnswer;
 use crate::answers::OpenAnswer;
 use crate::answers::ReadAnswer;
+use crate::answers::Showing;
 use crate::answers::SweepAnswer;
 use crate::bounds::frame_fits;
 use crate::bounds::is_open;
+use crate::shown::matrix_shown;
+use crate::shown::no_figures;
+use crate::shown::own_shown;
+use crate::shown::right_hand_shown;
+use chain::arrays::Figures;
 use chain::arrays::Working;
 use chain::judge::Judgement;
 use chain::judge::passes;
@@ -193,6 +200,44 @@ pub fn read_lent<'a>(
     }
     write_record(buffer, year, mean);
     ReadAnswer::Written
+}
+
+// 21. The session is as it was.
+pub fn figures_lent<'a>(
+    last: usize,
+    closeness: u64,
+    total: u64,
+    own: &'a [u64; 31],
+    matrix: &'a [i64; 961],
+    right_hand: &'a [i64; 31],
+    mean: &'a [i64; 31],
+) -> Showing
+    ensures { λ r. ⌜ Shows
+        (sessionAt last closeness total (now (own .entry)) (now (matrix .entry)) (now («right_hand» .entry)) (now (mean .entry)))
+        r ⌝ }
+{
+    if !is_open(last, closeness, total, own, matrix, right_hand, mean) {
+        let nothing = no_figures();
+        return Showing {
+            answer: FiguresAnswer::Refused(21, 0),
+            figures: nothing,
+        };
+    }
+    let count = 2 * last + 1;
+    let weights = own_shown(count, own);
+    let entries = matrix_shown(count, matrix);
+    let targets = right_hand_shown(count, right_hand);
+    let shown = Figures {
+        last: last,
+        closeness: closeness,
+        own: weights,
+        matrix: entries,
+        right_hand: targets,
+    };
+    Showing {
+        answer: FiguresAnswer::Shown,
+        figures: shown,
+    }
 }
 
 // 16: a diagonal entry that is zero.

@@ -1,12 +1,13 @@
 // The calls of the desk. A session is a value: a call takes it and, where it may change, gives it back. `lent` has the same calls
 // over a session whose arrays are lent one by one, so that none is copied. No call asks anything of its caller; each has one
-// equation with document 01's machine, refused calls included.
+// equation with document 01's machine, refused calls included. Document 01 has no call `figures`: its equation is with the state.
 use chain::arrays::Figures;
 
 pub mod answers;
 mod bounds;
 pub mod calls;
 pub mod lent;
+mod shown;
 pub mod state;
 
 // Nothing (J = 0), or the figures of an accepted file, the mean and the sweeps run since open.

@@ -3,19 +3,13 @@ ghost use mathlib.Core.Path.{_≡_};
 ghost use Rattle.session.specs.State.{stateOf};
 ghost use Rattle.definitions.specs.Machine.{State};
 use crate::Session;
-use chain::arrays::Figures;
+use crate::shown::no_figures;
 
 // Nothing is open.
 pub fn empty() -> Session
     ensures { λ r. ⌜ stateOf r ≡ State.empty ⌝ }
 {
-    let figures = Figures {
-        last: 0,
-        closeness: 0,
-        own: [0; 31],
-        matrix: [0; 961],
-        right_hand: [0; 31],
-    };
+    let figures = no_figures();
     Session {
         figures: figures,
         mean: [0; 31],

@@ -1,0 +1,43 @@
+"""What the calls answer: section "The calls" of docs/SPECIFICATION.md."""
+
+from __future__ import annotations
+
+from dataclasses import dataclass
+from typing import Optional
+
+
+@dataclass(frozen=True)
+class Judgement:
+    """Whether a mean passes, and if not the first part that fails: phi 0..J are parts 0..J, then psi. True if it passes."""
+
+    passed: bool
+    part: Optional[int]
+
+    def __bool__(self) -> bool:
+        return self.passed
+
+
+@dataclass(frozen=True)
+class Sweeping:
+    """Whether the mean is settled, and the sweeps run since open. True if it is settled."""
+
+    settled: bool
+    total: int
+
+    def __bool__(self) -> bool:
+        return self.settled
+
+
+@dataclass(frozen=True)
+class Figures:
+    """The linear system of the open file, and by how much a mean may miss it.
+
+    A mean passes if `matrix` times its parts is within `closeness` times `own_weights` of `right_hand_side`, part by part. All have
+    2J+1 parts, phi first; J is `last`, and `matrix` has its rows, both halves filled.
+    """
+
+    last: int
+    closeness: int
+    own_weights: tuple[int, ...]
+    matrix: tuple[tuple[int, ...], ...]
+    right_hand_side: tuple[int, ...]
