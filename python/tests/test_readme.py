@@ -1,4 +1,4 @@
-"""The example of each README runs, and prints what its comments say."""
+"""Every example of each README runs, and prints what its comments say."""
 
 import os
 import re
@@ -10,10 +10,10 @@ import unittest
 from paths import ROOT
 
 
-def example(document: str) -> str:
-    """The block of code that imports the package."""
+def examples(document: str) -> list[str]:
+    """The blocks of code that import the package."""
     blocks = re.findall(r"(?:^ {4}.*\n|^\n)+", (ROOT / document).read_text(), re.MULTILINE)
-    return textwrap.dedent(next(block for block in blocks if "from reserving_desk import" in block))
+    return [textwrap.dedent(block) for block in blocks if "from reserving_desk import" in block]
 
 
 class Readme(unittest.TestCase):
@@ -28,11 +28,11 @@ class Readme(unittest.TestCase):
         for line, comment in zip(printed, comments):
             self.assertRegex(comment, rf"{re.escape(line)}(?!\w)", f"{line!r} is printed, and {comment!r} is said")
 
-    def test_of_the_desk(self) -> None:
-        self.assert_prints_what_it_says(example("README.md"))
-
-    def test_of_the_package(self) -> None:
-        self.assert_prints_what_it_says(example("python/README.md"))
+    def test_examples(self) -> None:
+        for document, count in (("README.md", 2), ("python/README.md", 1)):
+            self.assertEqual(len(examples(document)), count, document)
+            for code in examples(document):
+                self.assert_prints_what_it_says(code)
 
     def test_links_of_the_package(self) -> None:
         text = (ROOT / "python" / "README.md").read_text()

@@ -1,4 +1,4 @@
-"""The package is typed throughout, for Python 3.9 as for this one; so are its example and its tests, which want 3.10 as the reference does.
+"""The package, its example and its tests are typed throughout, for the oldest Python that they support as for this one.
 
 Left out where mypy is missing.
 """
@@ -12,7 +12,7 @@ import unittest
 from paths import ROOT
 
 PACKAGE, EXAMPLES, TESTS, REFERENCE = (ROOT / name for name in ("python/reserving_desk", "python/examples", "python/tests", "reference"))
-OLDEST = "3.9"
+OLDEST = "3.10"  # as the reference, without which no test of the package runs
 MYPY = shutil.which("mypy") or ""
 
 
@@ -27,16 +27,13 @@ class Types(unittest.TestCase):
             done = subprocess.run(command, cwd=cache, env={**os.environ, "MYPYPATH": paths}, capture_output=True, text=True)
         self.assertEqual((done.returncode, done.stdout, done.stderr), (0, "", ""))
 
-    def test_of_the_package(self) -> None:
-        self.assert_typed(PACKAGE)
+    def test_for_this_python(self) -> None:
+        self.assert_typed(PACKAGE, EXAMPLES, TESTS)
 
-    def test_of_the_package_for_the_oldest_python(self) -> None:
-        said = (ROOT / "python" / "pyproject.toml").read_text()
-        self.assertIn(f'requires-python = ">={OLDEST}"', said)
-        self.assert_typed(f"--python-version={OLDEST}", PACKAGE)
-
-    def test_of_the_example_and_the_tests(self) -> None:
-        self.assert_typed(EXAMPLES, TESTS)
+    def test_for_the_oldest_python(self) -> None:
+        for document, said in (("python/pyproject.toml", f'requires-python = ">={OLDEST}"'), ("python/README.md", f"Python {OLDEST} or newer")):
+            self.assertIn(said, (ROOT / document).read_text())
+        self.assert_typed(f"--python-version={OLDEST}", PACKAGE, EXAMPLES, TESTS)
 
 
 if __name__ == "__main__":
