@@ -4,10 +4,11 @@ A script is a run of calls, each a letter and its arguments. A number is 4 bytes
 string is a number and that many bytes, at most 4,096.
 """
 
-from collections.abc import Iterator
+from collections.abc import Iterator, Sequence
 from typing import BinaryIO
 
 import session
+from chain import Figures
 from layout import Refusal
 from listing import refused_line
 
@@ -43,6 +44,8 @@ def _call(letter: bytes, script: BinaryIO, state: session.State) -> tuple[list[s
         case b"r":
             answer, buffer = session.read(state, LENT_BYTE * _length(script))
             return [_line(answer), f"buffer {buffer.hex()}"], state
+        case b"f":
+            return _figures_lines(session.figures(state)), state
         case b"w":
             return [_row_line(_bytes(script), _number(script), _number(script))], state
         case b"c":
@@ -67,6 +70,21 @@ def _line(answer: object) -> str:
         case session.Written():
             return "read"
     raise TypeError(f"not an answer: {answer!r}")
+
+
+def _figures_lines(shown: Figures | Refusal) -> list[str]:
+    if isinstance(shown, Refusal):
+        return [refused_line(shown)]
+    return [
+        f"figures {len(shown.own) // 2} {shown.closeness}",
+        _numbers_line("own", shown.own),
+        *(_numbers_line("row", row) for row in shown.matrix),
+        _numbers_line("right", shown.right_hand_side),
+    ]
+
+
+def _numbers_line(name: str, numbers: Sequence[int]) -> str:
+    return " ".join((name, *map(str, numbers)))
 
 
 def _row_line(lent: bytes, channel: int, year: int) -> str:

@@ -131,6 +131,11 @@ def read(state: State, buffer: bytes) -> tuple[Written | Refusal, bytes]:
     return Written(), record + buffer[len(record):]
 
 
+def figures(state: State) -> chain.Figures | Refusal:
+    """21. None of document 01's calls: it shows the figures that its judge and sweep go by. The state is untouched."""
+    return Refusal(21) if state is EMPTY else state.figures
+
+
 def row(lent: bytes, channel: int, year: int) -> bytes:
     """The accident year's part of the paid (0) or incurred (1) block; empty exactly when it refuses."""
     if isinstance(row_told(lent, channel, year), Refusal):

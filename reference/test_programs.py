@@ -91,16 +91,18 @@ class Script(unittest.TestCase):
             b"s" + struct.pack(">I", 1) + b"o" + string(F) + b"o" + string(F)
             + b"j" + string(build_record((10 * t + 1, t, -t)))
             + b"j" + string(build_record((10 * t, t + 1, -t)))
-            + b"s" + struct.pack(">I", 1) + b"r" + struct.pack(">I", 18) + b"r" + struct.pack(">I", 2)
+            + b"s" + struct.pack(">I", 1) + b"r" + struct.pack(">I", 18) + b"r" + struct.pack(">I", 2) + b"f"
             + b"w" + string(F) + struct.pack(">II", 1, 0) + b"w" + string(F) + struct.pack(">II", 0, 2)
-            + b"c" + b"r" + struct.pack(">I", 0) + b"o" + string(build_file(samples.many_sweeps(2)))
+            + b"c" + b"f" + b"r" + struct.pack(">I", 0) + b"o" + string(build_file(samples.many_sweeps(2)))
             + b"s" + struct.pack(">I", 1) + b"c"
         )
         self.assertEqual(answers(given), [
             "refused 21 at 0", "opened", "refused 22 at 0", "passed", "fails 1", "settled 0",
             "read", "buffer 000000110100a0000000100000fff00000a5", "refused 13 at 0", "buffer a5a5",
+            "figures 1 1", "own 131073 65537 65537", "row 131073 0 0", "row 0 98305 -32768", "row 0 -32768 98305",
+            "right 1374400020480 137440002048 -137440002048",
             "row 00000000000010000000000000000800", "refused 15 at 0",
-            "closed", "refused 21 at 0", "buffer ", "opened", "going 1", "closed",
+            "closed", "refused 21 at 0", "refused 21 at 0", "buffer ", "opened", "going 1", "closed",
         ])
 
     def test_ends(self) -> None:

@@ -2,6 +2,7 @@
 
 import struct
 import unittest
+from operator import mul
 from random import Random
 from unittest import mock
 
@@ -206,6 +207,48 @@ class Read(unittest.TestCase):
                 written += 1
                 self.assertEqual(session.judge(state, buffer), Passed())
         self.assertGreater(written, 10)
+
+
+class Figures(unittest.TestCase):
+    def test_figures_of_the_document(self) -> None:
+        t = 1 << 20
+        self.assertEqual(session.figures(opened(samples.file_f())), chain.Figures(
+            closeness=1,
+            own=(131_073, 65_537, 65_537),
+            matrix=((131_073, 0, 0), (0, 98_305, -32_768), (0, -32_768, 98_305)),
+            right_hand_side=(1_310_730 * t, 131_073 * t, -131_073 * t),
+        ))
+
+    def test_nothing_open(self) -> None:
+        for state in (EMPTY, session.close(opened(GOING))):
+            self.assertEqual(session.figures(state), Refusal(21, 0))
+
+    def test_sweeps_change_none(self) -> None:
+        before = opened(GOING)
+        _, after = session.sweep(before, 2)
+        self.assertNotEqual(after.mean, before.mean)
+        self.assertEqual(session.figures(after), session.figures(before))
+
+    def test_a_mean_is_judged_by_them(self) -> None:
+        """A solver that has the figures alone tells of every mean what judge tells."""
+        rng = Random(33)
+        low, high = layout.MEAN_LIMITS
+        failing = set()
+        for last in range(1, 16):
+            state = opened(samples.drawn_file(rng, last))
+            shown, parts = session.figures(state), layout.parts_count(last)
+            self.assertEqual([len(row) for row in shown.matrix], [parts] * parts)
+            _, settled = session.sweep(state, 4_096)
+            for offset in (0, shown.closeness, 10 * shown.closeness):
+                mean = [min(max(part + rng.randint(-offset, offset), low), high) for part in settled.mean]
+                lines = zip(shown.matrix, shown.right_hand_side, shown.own, strict=True)
+                fails = [
+                    k for k, (row, target, own) in enumerate(lines)
+                    if abs(sum(map(mul, row, mean)) - target) > shown.closeness * own
+                ]
+                self.assertEqual(session.judge(state, build_record(mean)), Fails(fails[0]) if fails else Passed())
+                failing.add(bool(fails))
+        self.assertEqual(failing, {True, False})
 
 
 class Row(unittest.TestCase):

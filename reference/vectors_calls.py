@@ -51,12 +51,13 @@ def call_row(lent: bytes, channel: int, year: int) -> bytes:
     return b"w" + string(lent) + number(channel) + number(year)
 
 
+FIGURES = b"f"
 CLOSE = b"c"
 
 
 def one_of_each() -> Iterator[bytes]:
     """Every kind of call, once, on an empty session, which is empty again behind the last."""
-    yield from (call_open(b""), call_judge(b""), call_sweep(1), call_read(0), call_row(b"", 0, 0), CLOSE)
+    yield from (call_open(b""), call_judge(b""), call_sweep(1), call_read(0), FIGURES, call_row(b"", 0, 0), CLOSE)
 
 
 def script_of_scenes(seed: int, drawn_sessions: int = 60) -> bytes:
@@ -73,6 +74,7 @@ def script_of_scenes(seed: int, drawn_sessions: int = 60) -> bytes:
         spent(),
         added_up(samples.many_sweeps(), range(1, 20)),
         *(halves(offset) for offset in (1, -1)),
+        *(figures_shown(samples.drawn_file(rng, last)) for last in range(1, LARGEST_YEAR + 1)),
         *(every_row(build_file(samples.drawn_file(rng, last))) for last in (1, 2, 3, 9, LARGEST_YEAR)),
         row_refusals(),
         *(settle_and_read(rng, samples.drawn_file(rng, last)) for last in range(1, LARGEST_YEAR + 1)),
@@ -108,7 +110,7 @@ def figures_of_document() -> Iterator[bytes]:
     """File F: the means that the specification judges, its two refusals, and its reading."""
     means = [(10 * T, T, -T), (10 * T + 1, T, -T), (10 * T + 2, T, -T), (10 * T, T + 1, -T)]
     for closeness in (1, 2):
-        yield call_open(build_file(samples.file_f(closeness)))
+        yield from (call_open(build_file(samples.file_f(closeness))), FIGURES)
         yield from (call_judge(build_record(mean)) for mean in means)
         yield call_sweep(1)
         yield call_read(record_length(1))
@@ -124,10 +126,10 @@ def state_refusals() -> Iterator[bytes]:
     record = build_record((0, 0, 0))
     for _ in range(2):  # again after a close: a closed session is as empty as a new one
         yield from (call_judge(record), call_judge(b""), call_sweep(1), call_sweep(0))
-        yield from (call_read(17), call_read(0), CLOSE)
+        yield from (call_read(17), call_read(0), FIGURES, CLOSE)
     yield from (call_open(f), call_open(f), call_open(b""), call_open(SPOIL_FILE[9](f)), call_open(going))
     yield from (call_sweep(4_096), call_read(17), CLOSE)
-    yield from (call_open(b""), call_judge(record))  # a refused open opens nothing
+    yield from (call_open(b""), call_judge(record), FIGURES)  # a refused open opens nothing
     yield from (call_open(going), call_read(record_length(2)), call_read(record_length(2) - 1), call_read(0))
     yield from (call_sweep(4_096), call_read(record_length(2) - 1), call_read(record_length(2)), CLOSE, CLOSE)
 
@@ -220,6 +222,14 @@ def halves(offset: int) -> Iterator[bytes]:
     yield from (call_read(record_length(1)), CLOSE)
 
 
+def figures_shown(file: File) -> Iterator[bytes]:
+    """One J: the same figures before and after a sweep, where the mean is another; none after a close."""
+    yield from (call_open(build_file(file)), FIGURES)
+    if file.last <= 3:
+        yield from (call_sweep(1), FIGURES)
+    yield from (CLOSE, FIGURES)
+
+
 def every_row(lent: bytes) -> Iterator[bytes]:
     last = lent[5]
     yield from (call_row(lent, channel, year) for channel in (0, 1) for year in range(last + 2))
@@ -285,7 +295,7 @@ def drawn_session(rng: Random) -> Iterator[bytes]:
 
 def _drawn_call(rng: Random, file: File, mean: tuple[int, ...]) -> bytes:
     lent, size = build_file(file), record_length(file.last)
-    match rng.choices("ojsrwcnd", (2, 12, 12, 8, 2, 1, 2, 3))[0]:
+    match rng.choices("ojsrfwcnd", (2, 12, 12, 8, 1, 2, 1, 2, 3))[0]:
         case "o":
             return call_open(lent)
         case "j":
@@ -295,6 +305,8 @@ def _drawn_call(rng: Random, file: File, mean: tuple[int, ...]) -> bytes:
             return call_sweep(rng.choice((1, 1, 1, 2, 3, few, 4_096, 0, 4_097, any_number)))
         case "r":
             return call_read(rng.choice((size - 1, size, size, size + 1, rng.randint(0, 150))))
+        case "f":
+            return FIGURES
         case "w":
             channel = rng.choice((0, 0, 1, 1, 2, rng.getrandbits(32)))
             return call_row(lent, channel, rng.randint(0, file.last + 1))

@@ -10,6 +10,7 @@ use crate::printing::print_sweep;
 use crate::reading::read_length;
 use crate::reading::read_number;
 use crate::reading::read_string;
+use crate::shown::print_figures;
 use fields::Field;
 use layout::checks::Check;
 use libc::STDIN_FILENO;
@@ -17,6 +18,7 @@ use readings::rows::row;
 use readings::rows::row_told;
 use session::Session;
 use session::calls::close;
+use session::calls::figures;
 use session::calls::judge;
 use session::calls::open;
 use session::calls::read;
@@ -25,6 +27,7 @@ use session::state::empty;
 
 mod printing;
 mod reading;
+mod shown;
 
 // The session after a call, and whether another call may follow: not where the script is wrong or nothing more can be written.
 struct Step {
@@ -131,6 +134,14 @@ fn run_row(s: Session) -> Step {
     }
 }
 
+fn run_figures(s: Session) -> Step {
+    let shown = figures(s);
+    Step {
+        session: s,
+        goes_on: print_figures(shown),
+    }
+}
+
 fn run_close(s: Session) -> Step {
     let session = close(s);
     Step {
@@ -146,6 +157,7 @@ fn run(s: Session, letter: u8) -> Step {
         b'j' => run_judge(s),
         b's' => run_sweep(s),
         b'r' => run_read(s),
+        b'f' => run_figures(s),
         b'w' => run_row(s),
         b'c' => run_close(s),
         _ => script_ends(s),

@@ -11,12 +11,12 @@ use session::answers::OpenAnswer;
 use session::answers::ReadAnswer;
 use session::answers::SweepAnswer;
 
-fn print(text: &[u8]) -> bool {
+pub fn print(text: &[u8]) -> bool {
     io::write_all(STDOUT_FILENO, text)
 }
 
 // A name and a number.
-fn print_count(name: &[u8], n: u64) -> bool {
+pub fn print_count(name: &[u8], n: u64) -> bool {
     print(name) && io::print_decimal(STDOUT_FILENO, n) && print(b"\n")
 }
 
