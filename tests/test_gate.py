@@ -11,11 +11,11 @@ TOOLS = ("cc", "c++", "valgrind")
 
 
 def gate_with(*tools: str) -> subprocess.CompletedProcess[str]:
-    """The gate on a machine that has these tools only. They do nothing, and without python3 no test of it runs."""
+    """The gate on a machine that has these tools and a kit. They do nothing, and without python3 no test of it runs."""
     with tempfile.TemporaryDirectory() as folder:
         for name in ("bash", "dirname"):
             Path(folder, name).symlink_to(shutil.which(name))
-        for name in tools:
+        for name in ("rt", *tools):
             Path(folder, name).symlink_to(shutil.which("true"))
         return subprocess.run([shutil.which("bash"), ROOT / ".ci" / "run"], env={"PATH": folder}, capture_output=True, text=True)
 
