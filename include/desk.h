@@ -16,7 +16,7 @@
  *   - a pointer is valid for the length beside it, to read, or to write where it is a buffer (null with length 0 is an empty slice);
  *   - no file, record or buffer overlaps the session;
  *   - while a call runs, nothing else writes what it is lent, nor reads what it may write;
- *   - the header and the library are of one version.
+ *   - the library is of the header's version, or of a later one with the same first number.
  */
 #ifndef DESK_H
 #define DESK_H
