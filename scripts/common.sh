@@ -29,7 +29,8 @@ need_kit() {
     local wanted found
     wanted=$(<"$root/kit.txt")
     command -v rt >/dev/null || fail 2 "there is no rt on the path: install the Rattle kit, $wanted"
-    found=$(rt version) || found="of no version that it tells"
+    found=$(rt version) || found=''
+    found=${found:-of no version that it tells}
     [ "$found" = "$wanted" ] || say "the kit here is $found, while kit.txt has $wanted: the one that is here checks the proofs anew"
 }
 

@@ -66,6 +66,10 @@ class Kit(unittest.TestCase):
                 self.assertNotIn("kit.txt", rest)
                 self.assertTrue(rest if script == "test" else desk.calls_of_rt())
 
+    def test_one_that_tells_no_version_is_another(self) -> None:
+        with checkout() as desk:
+            self.assertIn("build: the kit here is of no version that it tells, while", desk.run("build", KIT="").stderr)
+
     def test_the_pinned_one_is_not_told(self) -> None:
         with checkout() as desk:
             for script, words in (("run", ["-"]), ("build", []), ("test", [])):
