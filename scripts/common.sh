@@ -7,6 +7,7 @@ script=${0##*/}
 crates=0           # so many are to be proved
 declare -A told=() # those that were said, so that a second run of rt does not say them again
 began=$SECONDS     # when the last of them was
+shopt -s lastpipe  # what a loop behind a pipe sets is kept
 
 say() {
     echo "$script: $*" >&2
@@ -51,14 +52,13 @@ count_crates() { # NAME...
     done < <(tac "$root/crates.txt")
 }
 
-# Runs rt, and says each crate as it is proved. Where rt fails, all that it said is shown.
+# Runs rt, and says each crate as it is proved. Where rt fails, all that it said is shown. Standard input may be a file to list.
 prove() { # RT'S WORDS...
     local line log=''
-    while IFS= read -r line; do
+    (cd "$root" && exec rt "$@" 2>&1 </dev/null) | while IFS= read -r line; do
         log+=$line$'\n'
         tell_crate "$line"
-    done < <(cd "$root" && exec rt "$@" 2>&1)
-    wait $! && return
+    done && return
     printf %s "$log" >&2
     return 1
 }

@@ -1,5 +1,5 @@
 """A small checkout with the scripts of this one, and a machine that has only the tools which they may use. The kit is a fake: its
-`rt` writes down how it is called, says what the real one says, and makes empty files where the real one builds."""
+`rt` writes down how it is called, reads its standard input, says what the real one says, and builds programs that list their own."""
 
 import os
 import shutil
@@ -15,11 +15,12 @@ PINNED = (ROOT / "kit.txt").read_text().strip()
 TOOLS = ("bash", "cat", "dirname", "find", "install", "ln", "mkdir", "mv", "readlink", "rm", "tac", "touch")
 CRATES = "# NAME: DEPENDENCIES\nfields:\nchain: fields\ndesk: fields chain\nlisting: chain io\ncalls: fields chain io\n"
 
-RT = """#!{bash}
+RT = r"""#!{bash}
 case $1 in
 version) echo "${{KIT-{pinned}}}"; exit ;;
 esac
 echo "$*" >>"$CALLED"
+cat >/dev/null
 for crate in fields chain; do
     echo "fn $crate: proved"
     [ "${{REFUSED-}}" != $crate ] || {{ echo "rt: $crate NOT PROVED (exit 1, 5 s)"; exit 1; }}
@@ -31,7 +32,7 @@ staticlib)
     echo archive >target/staticlib/libdesk.a
     echo "rt: target/staticlib/libdesk.a has the functions of desk that are marked" ;;
 check)
-    echo '{shebang}' >target/bin/$2
+    printf '%s\n' '#!{bash}' 'echo J 1' cat >target/bin/$2
     chmod +x target/bin/$2
     echo "rt: $2 proved (7 s)" ;;
 esac
@@ -68,7 +69,7 @@ class Checkout:
     def program(self, path: Path, text: str) -> None:
         bash = shutil.which("bash")
         path.parent.mkdir(parents=True, exist_ok=True)
-        path.write_text(text.format(bash=bash, pinned=PINNED, shebang=f"#!{bash}"))
+        path.write_text(text.format(bash=bash, pinned=PINNED))
         path.chmod(0o755)
 
     def listing(self, body: str) -> None:

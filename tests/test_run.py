@@ -82,6 +82,11 @@ class Building(unittest.TestCase):
             desk.run("run", "-")
             self.assertEqual(desk.calls_of_rt(), ["check listing"] * 2)
 
+    def test_leaves_standard_input_to_the_program(self) -> None:
+        with checkout() as desk:
+            done = desk.run("run", "-", given="from a pipe\n")
+            self.assertEqual((done.returncode, done.stdout), (0, "J 1\nfrom a pipe\n"))
+
     def test_a_program_that_is_gone_loses_its_stamp(self) -> None:
         with checkout() as desk:
             stamp = desk.write("target/stamp/listing", "")

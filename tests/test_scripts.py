@@ -79,7 +79,7 @@ class Kit(unittest.TestCase):
 class Progress(unittest.TestCase):
     def test_a_line_for_each_crate(self) -> None:
         with checkout() as desk:
-            self.assertEqual(desk.run("run", "-").stderr.splitlines()[:-1], [
+            self.assertEqual(desk.run("run", "-").stderr.splitlines(), [
                 "run: proving and building the listing program, 3 crates, which takes some minutes",
                 "run: proved fields (19 s), 1 of 3",
                 "run: proved chain (19 s), 2 of 3",
