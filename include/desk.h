@@ -1,16 +1,22 @@
-/* The reserving desk for C and C++: the calls of document 01, from libdesk.a (or libdesk.so).
+/* The reserving desk for C and C++: its calls, from libdesk.a or libdesk.so.
  *
  *     desk_session session = DESK_EMPTY;
  *     desk_refusal refusal = desk_open(&session, file, length);
- *     if (refusal.number != 0) ...
+ *     if (refusal.number != 0) puts(desk_refusal_text(refusal.number));
+ *
+ * docs/SPECIFICATION.md says what each call does: "The file" and "The mean record" have the bytes, "The calls" the answers,
+ * "Refusals" the numbers with their places, and "What is guaranteed" what an answer is worth.
  *
  * A call does its job or is refused, whatever bytes it is lent and whatever stands in the session. A refused call changes
- * neither the session nor the buffer. The README lists the numbers of refusals with their meanings; the order in which a
- * call tests them is that of its comment below.
+ * neither the session nor the buffer. The order in which a call tests the numbers is that of its comment below. The library
+ * keeps no pointer and no state of its own, allocates nothing and prints nothing. Sessions are independent of each other.
  *
- * The library keeps no pointer and no state of its own, allocates nothing and prints nothing. What a caller owes: every
- * pointer is valid for its length (null with length 0 is an empty slice), neither a file, a record nor a buffer overlaps the
- * session, and while a call runs nothing else writes what it is lent. Sessions are independent of each other.
+ * What a caller owes. No call can test these, and what follows where one is not kept is undefined, as everywhere in C:
+ *   - a session that is lent is one whole desk_session;
+ *   - a pointer is valid for the length beside it, to read, or to write where it is a buffer (null with length 0 is an empty slice);
+ *   - no file, record or buffer overlaps the session;
+ *   - while a call runs, nothing else writes what it is lent, nor reads what it may write;
+ *   - the library is of the header's version, or of a later one with the same first number.
  */
 #ifndef DESK_H
 #define DESK_H
@@ -22,10 +28,15 @@
 extern "C" {
 #endif
 
+#define DESK_VERSION "1.1.0"
+#define DESK_VERSION_MAJOR 1
+#define DESK_VERSION_MINOR 1
+#define DESK_VERSION_PATCH 0
+
 #define DESK_PAID UINT64_C(0) /* the channels of a row */
 #define DESK_INCURRED UINT64_C(1)
-#define DESK_MOST_SWEEPS UINT64_C(4096)     /* for one open file */
-#define DESK_LONGEST_RECORD ((size_t)129)   /* a mean record has 5 + 4(2J+1) bytes */
+#define DESK_MOST_SWEEPS UINT64_C(4096) /* for one open file */
+#define DESK_LONGEST_RECORD 129u        /* a mean record has 5 + 4(2J+1) bytes */
 
 /* A session: empty, or an accepted file's figures with a mean and the sweeps run. The fields are the library's; a session may
  * be copied, and the copy is a session of its own. Bytes that no call has left there count as an empty session or as an open
@@ -38,9 +49,15 @@ typedef struct desk_session {
     int64_t mean[31];
 } desk_session;
 
+/* The empty session, where one is declared; and as a value, to be assigned or handed on. */
 #define DESK_EMPTY {{0}, {0}, {0}, {0}, {0}}
+#ifdef __cplusplus
+#define DESK_EMPTY_SESSION (desk_session{})
+#else
+#define DESK_EMPTY_SESSION ((desk_session)DESK_EMPTY)
+#endif
 
-/* Number 0: the call did its job. Otherwise document 01's number, and where the field begins that is refused, or 0. */
+/* Number 0: the call did its job. Otherwise a number of "Refusals", and where the field begins that is refused, or 0. */
 typedef struct desk_refusal {
     uint64_t number;
     uint64_t place;
@@ -140,6 +157,34 @@ desk_shown desk_row(const uint8_t *file, size_t length, uint64_t channel, uint64
 /* Empties the session: nothing is open then, though the other fields keep what they held. It is never refused. */
 static inline void desk_close(desk_session *s) {
     desk_close_lent(s->held);
+}
+
+/* What the number of a refusal means, in the words of "Refusals": ASCII, and never null. */
+static inline const char *desk_refusal_text(uint64_t number) {
+    switch (number) {
+    case 0: return "not refused";
+    case 1: return "shorter than a header (10 bytes of a file, 5 of a mean record), or not as long as its length field says";
+    case 2: return "the version of the format must be 1";
+    case 3: return "the last development year J must be from 1 to 15";
+    case 4: return "the length does not suit the number of development years";
+    case 5: return "the closeness must be from 1 to 65,536 ticks";
+    case 6: return "a variance of sigma or tau must be from 2^18 to 2^40 squared ticks";
+    case 7: return "the variance of a prior must be from 2^18 to 2^46 squared ticks";
+    case 8: return "the mean of a prior must be from -2^26 to 2^26 ticks";
+    case 9: return "an amount must be from 1 to 2^40";
+    case 10: return "the oldest accident year must end with the same amount paid as incurred";
+    case 11: return "each part of a mean must be from -2^26 to 2^26 ticks";
+    case 12: return "the number of sweeps must be from 1 to 4,096";
+    case 13: return "the buffer has no room for the mean record";
+    case 14: return "the channel must be 0 (paid) or 1 (incurred)";
+    case 15: return "the file has no such accident year";
+    case 16: return "the diagonal of the matrix has a zero";
+    case 21: return "no file is open in this session";
+    case 22: return "this session has a file open already";
+    case 23: return "all 4,096 sweeps are run and the mean still does not pass";
+    case 24: return "the mean that is held does not pass";
+    default: return "no such refusal";
+    }
 }
 
 /* The sizes that the library was built with. Whoever declares its calls elsewhere than here compares them before the first

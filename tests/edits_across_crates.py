@@ -56,11 +56,11 @@ def complaint(path: Path) -> str | None:
 
 def main() -> int:
     paths = sorted(EDITS.glob("*.edit"))
+    failed = 0
     with ThreadPoolExecutor(2) as pool:
-        complaints = dict(zip(paths, pool.map(complaint, paths)))
-    for path, said in complaints.items():
-        print(f"{path.stem}: {said or 'refused, as it must be'}")
-    failed = sum(said is not None for said in complaints.values())
+        for path, said in zip(paths, pool.map(complaint, paths)):
+            print(f"{path.stem}: {said or 'refused, as it must be'}", flush=True)
+            failed += said is not None
     print(f"edits across crates: {len(paths) - failed} refused, {failed} wrong")
     return 1 if failed or not paths else 0
 

@@ -154,9 +154,13 @@ class Limits(unittest.TestCase):
         self.assertEqual(package_layout.LONGEST_RECORD, layout.record_length(layout.LARGEST_YEAR))
 
     def test_of_the_header(self) -> None:
-        macros = dict(re.findall(r"^#define (DESK_\w+) (?:UINT64_C|\(\(size_t\))?\(?(.+?)\)*(?:\s+/\*.*)?$", HEADER, re.MULTILINE))
+        macros = dict(re.findall(r"^#define (DESK_\w+) (.+?)(?:\s+/\*.*)?$", HEADER, re.MULTILINE))
         self.assertEqual(macros.pop("DESK_EMPTY"), "{" + ", ".join(["{0}"] * 5) + "}")
-        self.assertEqual({name: int(number) for name, number in macros.items()}, {
+        self.assertEqual(macros.pop("DESK_EMPTY_SESSION"), "((desk_session)DESK_EMPTY)")
+        version = ".".join(macros.pop(f"DESK_VERSION_{part}") for part in ("MAJOR", "MINOR", "PATCH"))
+        self.assertEqual(macros.pop("DESK_VERSION"), f'"{version}"')
+        numbers = {name: int(re.fullmatch(r"(?:UINT64_C\()?(\d+)[u)]?", text)[1]) for name, text in macros.items()}
+        self.assertEqual(numbers, {
             "DESK_PAID": layout.PAID,
             "DESK_INCURRED": layout.INCURRED,
             "DESK_MOST_SWEEPS": value("sweepLimit"),

@@ -48,11 +48,14 @@ class Promises(unittest.TestCase):
             "python3 -m unittest discover --quiet --start-directory tests", "python3 tests/documents.py", "python3 tests/believed.py",
             "python3 tests/unused.py", "python3 -m unittest discover --quiet --start-directory reference",
             "python3 reference vectors --check", "python3 tests/edits_across_crates.py", "rt ci |", "python3 tests/compare_programs.py",
-            "./build", "tests/c/run", "python3 -m unittest discover --quiet --start-directory python/tests",
+            "python3 tests/run_listings.py", "./build", "tests/c/run", "tests/c/install",
+            "python3 -m unittest discover --quiet --start-directory python/tests",
         ):
             self.assertRegex(text_of("test"), rf"(?m)^ *(?:if .*; then )?{re.escape(command)}")
-        for step in ("replay", 'replay "${watched[@]}"', "list", 'list "${watched[@]}"'):
-            self.assertIn(f"\n{step}\n", text_of("tests/c/run"))
+        for step in ("replay", "list", "write"):
+            self.assertIn(f'\n{step}\n{step} "${{watched[@]}}"\n', text_of("tests/c/run"))
+        for step in ("header_test_c", "header_test_cpp"):
+            self.assertIn(f'\n"$built/{step}"\n', text_of("tests/c/run"))
 
 
 if __name__ == "__main__":
