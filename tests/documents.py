@@ -9,6 +9,7 @@ exception that nothing uses. Besides: the README's map has every crate and folde
 import re
 import sys
 from collections.abc import Iterator
+from os.path import normpath
 
 from commands import complaint_of_command, is_command
 from declared import c_names, crates, files, folders, letters, made_by_build, text_of
@@ -28,6 +29,7 @@ EXCEPTIONS = {
     "new:": "a line of an edit",
     "&[Ticks; 31]": "a form that the kit does not cover, so no source has it",
     "ValueError": "an exception of Python",
+    "wheel": "a package of Python",
     "perf": "a tool of the machine",
     "rustc -O": "a tool of the machine",
     "python3-numpy": "a package of Debian",
@@ -88,7 +90,7 @@ def of_code(first: int, block: str) -> Iterator[tuple[int, str]]:
     lines = [(number, line.strip()) for number, line in enumerate(block.splitlines(), start=first)]
     if is_command(lines[0][1]):
         made = re.findall(r" -o (\S+)$", block, re.MULTILINE)  # by one command for the next
-        asked = [(number, line) for number, line in lines if line not in made]
+        asked = [(number, line) for number, line in lines if line.split(" ")[0] not in made]
         found = ((number, complaint_of_command(line) if is_command(line) else f"{line}: no command") for number, line in asked)
         yield from ((number, said) for number, said in found if said)
     elif lines[0][1].startswith("desk_"):
@@ -125,7 +127,7 @@ def of_paths(document: str, first: int, block: str) -> Iterator[tuple[int, str]]
     """Links, from the document's folder on, and paths outside of code spans, from the root on."""
     plain = re.sub(r"`[^`]+`", lambda found: " " * len(found[0]), block)
     folder = document.rpartition("/")[0]
-    links = [(match, f"{folder}/{match[1]}".lstrip("/")) for match in re.finditer(r"\]\(([^)#]+)\)", plain)]
+    links = [(match, normpath(f"{folder}/{match[1]}".lstrip("/"))) for match in re.finditer(r"\]\(([^)#]+)\)", plain)]
     words = re.finditer(r"(?<![\w/(\[])(?:[\w-]+/)+[\w-]+\.(?:md|py|rt|antt|h|c|so|a|file)\b", plain)
     for match, name in [*links, *((match, match[0]) for match in words)]:
         if name not in files() and name not in made_by_build():

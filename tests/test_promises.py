@@ -49,7 +49,7 @@ class Promises(unittest.TestCase):
             "python3 tests/unused.py", "python3 -m unittest discover --quiet --start-directory reference",
             "python3 reference vectors --check", "python3 tests/edits_across_crates.py", "rt ci |", "python3 tests/compare_programs.py",
             "python3 tests/run_listings.py", "./build", "tests/c/run", "tests/c/install",
-            "python3 -m unittest discover --quiet --start-directory python/tests",
+            "python3 -m unittest discover --quiet --start-directory python/tests", "python3 tests/snippets.py",
         ):
             self.assertRegex(text_of("test"), rf"(?m)^ *(?:if .*; then )?{re.escape(command)}")
         for step in ("replay", "list", "write"):
