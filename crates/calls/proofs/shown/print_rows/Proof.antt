@@ -1,6 +1,7 @@
 -- `shown::print_rows` keeps inside the matrix, and ends: the measure is how many rows are left.
 use Prim.Native.Nat.{_-_, _≤_}
-use borrow.Author.Needs.{needs}
+use mathlib.Core.Path.{refl}
+use native.Mathlib.Omega.{arith}
 use Rattle.calls.proofs.shown.print_rows.Statement.{statement}
 use Rattle.calls.proofs.shown.print_rows.Tie as tie
 
@@ -11,46 +12,46 @@ abbrev μ-loop : tie.MeasureT-loop
 μ-loop count matrix k₀ t7 k = count - k
 
 loop-holds : tie.Need-loop-holds Inv-loop μ-loop
-loop-holds c = search needs
+loop-holds c = omega arith
 
 mul-start : tie.Need-mul-start Inv-loop μ-loop
-mul-start c = search needs
+mul-start c = omega arith
 
 add-end : tie.Need-add-end Inv-loop μ-loop
-add-end c = search needs
+add-end c = omega arith
 
 slice-aggregate-print-numbers : tie.Need-slice-aggregate-print-numbers Inv-loop μ-loop
-slice-aggregate-print-numbers c = search needs
+slice-aggregate-print-numbers c = refl
 
 mul-print-numbers : tie.Need-mul-print-numbers Inv-loop μ-loop
-mul-print-numbers c = search needs
+mul-print-numbers c = omega arith
 
 sub-print-numbers : tie.Need-sub-print-numbers Inv-loop μ-loop
-sub-print-numbers c = search needs
+sub-print-numbers c = omega arith
 
 part-print-numbers-start : tie.Need-part-print-numbers-start Inv-loop μ-loop
-part-print-numbers-start c = search needs
+part-print-numbers-start c = omega arith
 
 part-print-numbers-end : tie.Need-part-print-numbers-end Inv-loop μ-loop
-part-print-numbers-end c = search needs
+part-print-numbers-end c = omega arith
 
 print-numbers-requires : tie.Need-print-numbers-requires Inv-loop μ-loop
-print-numbers-requires c κs = search needs
+print-numbers-requires c κs = tt
 
 returns : tie.Need-returns Inv-loop μ-loop
-returns c = search needs
+returns c = tt
 
 add-k : tie.Need-add-k Inv-loop μ-loop
-add-k c = search needs
+add-k c = omega arith
 
 loop-less : tie.Need-loop-less Inv-loop μ-loop
-loop-less c = search needs
+loop-less c = omega arith
 
 loop-again : tie.Need-loop-again Inv-loop μ-loop
-loop-again c = search needs
+loop-again c = omega arith
 
 returns-2 : tie.Need-returns-2 Inv-loop μ-loop
-returns-2 c = search needs
+returns-2 c = tt
 
 pub print-rows-spec : {M : Type 1} → statement M
 print-rows-spec =
