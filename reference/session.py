@@ -132,7 +132,7 @@ def read(state: State, buffer: bytes) -> tuple[Written | Refusal, bytes]:
 
 
 def figures(state: State) -> chain.Figures | Refusal:
-    """21. None of document 01's calls: it shows the figures that its judge and sweep go by. The state is untouched."""
+    """21. Shows the figures that judge and sweep go by; the state is untouched."""
     return Refusal(21) if state is EMPTY else state.figures
 
 

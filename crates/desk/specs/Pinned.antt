@@ -152,22 +152,20 @@ module _ (s : Session) (r : System) (call : Shows s r) where
     unfolding showsTo
     shown-right-hand k below = ap (λ x. part (x .«right_hand») k) e ∙ tab-at 31 (part (F .rightHand)) k (pos 0) below
 
-  -- of a file with two accident years
-  module _ (f : Bytes) (μ : List ℤ) (count : ℕ) (open-file : HoldsFile s f μ count) (two : lastYear f ≡ 1) where
-    pub shown-of-file :
-        (r .refusal .number ≡ 0) × (r .last ≡ 1) × (r .closeness ≡ closeness f)
-        × (getD (r .own) 2 0 ≡ own (chainOf f) 2) × (part (r .«right_hand») 2 ≡ rightHand (chainOf f) 2)
-        × (part (r .matrix) 33 ≡ matrix (chainOf f) 1 2) × (part (r .matrix) 63 ≡ matrix (chainOf f) 2 1)
-    shown-of-file =
-        let h = call .of-file f μ count open-file in (
-          h .0,
-          h .1 .last ∙ two,
-          h .1 .close,
-          h .1 .own 2 (omega (arith, two)),
-          h .1 .right-hand 2 (omega (arith, two)),
-          h .1 .matrix 1 2 (omega (arith, two)) (omega (arith, two)),
-          h .1 .matrix 2 1 (omega (arith, two)) (omega (arith, two)),
-        )
+  -- of the file that is open, whatever its J
+  module _ (f : Bytes) (μ : List ℤ) (count : ℕ) (open-file : HoldsFile s f μ count) where
+    pub numbers-of-file : (r .refusal .number ≡ 0) × (r .last ≡ lastYear f) × (r .closeness ≡ closeness f)
+    numbers-of-file = let h = call .of-file f μ count open-file in (h .0, h .1 .last, h .1 .close)
+
+    pub own-of-file : (k : ℕ) → k < 2 * lastYear f + 1 → getD (r .own) k 0 ≡ own (chainOf f) k
+    own-of-file = call .of-file f μ count open-file .1 .own
+
+    pub entry-of-file : (k l : ℕ) → k < 2 * lastYear f + 1 → l < 2 * lastYear f + 1
+        → part (r .matrix) (31 * k + l) ≡ matrix (chainOf f) k l
+    entry-of-file = call .of-file f μ count open-file .1 .matrix
+
+    pub right-hand-of-file : (k : ℕ) → k < 2 * lastYear f + 1 → part (r .«right_hand») k ≡ rightHand (chainOf f) k
+    right-hand-of-file = call .of-file f μ count open-file .1 .right-hand
 
 module _ (file : Bytes) (channel year : ℕ) (r : RowShown) (call : ShowsRow file channel year r) where
   pub row-told : rowCheck file channel year ≡ refuses 15 0 → r ≡ record { refusal = refusal 15 0; start = 0; length = 0 }

@@ -1,6 +1,6 @@
 -- The contracts of the calls: each answer, and the state and buffer afterwards, are the machine's; a refused call gives back the
 -- very session that it took; and the caller is told both halves of demand 3, what a mean that passes is worth and which must pass.
--- The call `figures` is none of document 01's: what it shows of the machine's state is defined here.
+-- The machine has no call `figures`: what it shows of the machine's state is defined here.
 use Prim.Native.Nat.{ℕ, _+_, _*_, _/_, _%_, _<_}
 use mathlib.Core.Path.{_≡_}
 use mathlib.Core.Bool.{true}
@@ -34,7 +34,7 @@ use Rattle.session.specs.declared.answers.Showing.{Showing}
 use Rattle.session.specs.declared.answers.Sweeping.{Sweeping}
 use Rattle.session.specs.State.{stateOf}
 
--- ---- document 01's number, place and values for every case of an answer
+-- ---- the specification's number, place and values for every case of an answer
 
 abbrev pub ofOpen : OpenAnswer → Answer
 ofOpen Opened = opened

@@ -1,4 +1,4 @@
-// What the calls answer. A refusal has document 01's number and place.
+// What the calls answer. A refusal has the specification's number and place.
 use crate::Session;
 use chain::arrays::Figures;
 

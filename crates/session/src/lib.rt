@@ -1,6 +1,6 @@
 // The calls of the desk. A session is a value: a call takes it and, where it may change, gives it back. `lent` has the same calls
 // over a session whose arrays are lent one by one, so that none is copied. No call asks anything of its caller; each has one
-// equation with document 01's machine, refused calls included. Document 01 has no call `figures`: its equation is with the state.
+// equation with the specification's machine, refused calls included; that of `figures`, which the machine does not have, is with its state.
 use chain::arrays::Figures;
 
 pub mod answers;
