@@ -2,8 +2,9 @@
 
 The border is every function that can be called from outside: the calls of the specification's table, the public functions of the session,
 what C calls, and `list`, which makes the page of the listing. From the names in their contracts the imports are followed, module by
-module. Every module of this repository that is reached, and every source that such a contract stands in, must be in that
-list, whose folders stand for all that is in them, and every entry of the list must be reached. Types that Rattle declares are in its sources, and the rest is the kit's.
+module. Every module of this repository that is reached, and every source that such a contract stands in, must be in that list, whose
+folders stand for all that is in them, and every entry of the list must be reached. Types that Rattle declares are in its sources, and
+the rest is the kit's.
 
     python3 tests/believed.py --print
 
@@ -76,7 +77,7 @@ def modules_of_contract(function: Function) -> set[str]:
 
 
 def file_of(module: str) -> str | None:
-    """`Rattle.session.specs.State` and, inside the crate, `Rattle.session.specs.State`; None for the kit's and for types of Rattle."""
+    """`Rattle.session.specs.State`, inside the crate `Rattle.session.specs.State`; None for the kit's and for types of Rattle."""
     found = re.fullmatch(r"Rattle·(\w+)(?:·specs)?\.specs\.(\w+)", module)
     return f"crates/{found[1]}/specs/{found[2]}.antt" if found and found[1] in crates() else None
 

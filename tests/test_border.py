@@ -29,7 +29,7 @@ def split(parameters: str) -> list[str]:
 def calls_of_rattle() -> dict[str, Call]:
     found = re.findall(r"pub extern \"C\" fn (\w+)(?:<'a>)?\((.*?)\)(?: -> (\w+))?\n", SOURCES, re.DOTALL)
     structs = dict(re.findall(r"#\[repr\(C\)\]\npub struct (\w+) \{\n(.*?)\}", SOURCES, re.DOTALL))
-    fields = {name: [(field, rattle_kind(kind)) for field, kind in re.findall(r"pub (\w+): ([^,]+),", body)] for name, body in structs.items()}
+    fields = {name: [(field, rattle_kind(kind)) for field, kind in re.findall(r"pub (\w+): ([^,]+),", structs[name])] for name in structs}
     return {name: (rattle_parameters(parameters), numbers(answer, fields)) for name, parameters, answer in found}
 
 

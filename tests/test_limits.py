@@ -1,5 +1,5 @@
-"""Limits and refusals are those of crates/definitions, wherever else they are written: in the specification's tables, in the
-README, in the header, in the package and in the reference. Each is read from its file, so that a number changed in one place alone shows."""
+"""Limits and refusals are those of crates/definitions, wherever else they are written: in the specification's tables, in the README, in
+the header, in the package and in the reference. Each is read from its file, so that a number changed in one place alone shows."""
 
 import re
 import sys

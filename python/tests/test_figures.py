@@ -14,6 +14,7 @@ from random import Random
 from refusing import opened, refusal_of
 
 import chain
+import exact
 import layout
 import samples
 from layout import build_file
@@ -22,14 +23,9 @@ from reserving_desk import Figures, Mean, Session, record_of
 
 
 def solve(matrix: Sequence[Sequence[int]], right: Sequence[int]) -> list[Fraction]:
-    """Exactly, by elimination; the matrix is positive definite, so no row needs to be exchanged."""
-    rows = [[Fraction(entry) for entry in (*row, value)] for row, value in zip(matrix, right)]
-    for k, pivot_row in enumerate(rows):
-        for other in range(len(rows)):
-            factor = rows[other][k] / pivot_row[k]
-            if other != k and factor:
-                rows[other] = [entry - factor * above for entry, above in zip(rows[other], pivot_row)]
-    return [row[-1] / row[k] for k, row in enumerate(rows)]
+    """Exactly, as the reference does."""
+    u, m = exact.solve(matrix, right)
+    return [Fraction(part, m) for part in u]
 
 
 class OfFileF(unittest.TestCase):

@@ -31,8 +31,8 @@ class Types(unittest.TestCase):
         self.assert_typed(PACKAGE, EXAMPLES, TESTS)
 
     def test_for_the_oldest_python(self) -> None:
-        for document, said in (("python/pyproject.toml", f'requires-python = ">={OLDEST}"'), ("python/README.md", f"Python {OLDEST} or newer")):
-            self.assertIn(said, (ROOT / document).read_text())
+        for name, said in (("pyproject.toml", f'requires-python = ">={OLDEST}"'), ("README.md", f"Python {OLDEST} or newer")):
+            self.assertIn(said, (ROOT / "python" / name).read_text())
         self.assert_typed(f"--python-version={OLDEST}", PACKAGE, EXAMPLES, TESTS)
 
 
