@@ -92,18 +92,23 @@ def reserves(file: File, mean: tuple[int, ...]) -> list[float]:
 
 
 def _ultimate(file: File, mean: tuple[int, ...], covariance: list[list[float]], year: int) -> float:
-    last, latest = file.last, file.last - year
     tick = log(2) / TICKS_PER_DOUBLING  # in natural logarithms
-    sigma2 = tick**2 * sum(file.sigma2[latest + 1:])
-    tau2 = tick**2 * sum(file.tau2[latest:])
-    beta = sigma2 / (sigma2 + tau2)
-    # e_i of the paper: 1 - beta at the phi still to come, beta at the psi still to come.
-    direction = [0.0] * (latest + 1) + [1 - beta] * year + [0.0] * latest + [beta] * year
-    to_come = tick * sum(share * part for share, part in zip(direction, mean))
+    shares = direction(file, year)
+    beta = shares[-1]
+    sigma2 = tick**2 * sum(file.sigma2[file.last - year + 1:])
+    to_come = tick * sum(share * part for share, part in zip(shares, mean))
     # A weight is 2^46 over squared ticks, so the matrix's inverse is a covariance in 2^46 squared ticks.
-    posterior_variance = 2**46 * tick**2 * _quadratic_form(covariance, direction)
+    posterior_variance = 2**46 * tick**2 * _quadratic_form(covariance, shares)
     seen = (1 - beta) * log(file.paid[year][-1]) + beta * log(file.incurred[year][-1])
     return exp(seen + to_come + (1 - beta) * sigma2 / 2 + posterior_variance / 2)
+
+
+def direction(file: File, year: int) -> list[float]:
+    """e_i of the paper: 1 - beta at the phi still to come, beta at the psi still to come."""
+    latest = file.last - year
+    sigma2, tau2 = sum(file.sigma2[latest + 1:]), sum(file.tau2[latest:])
+    beta = sigma2 / (sigma2 + tau2)
+    return [0.0] * (latest + 1) + [1 - beta] * year + [0.0] * latest + [beta] * year
 
 
 def _quadratic_form(matrix: list[list[float]], vector: list[float]) -> float:

@@ -37,9 +37,9 @@ def numbers(text: str) -> list[int]:
 
 
 def place_of(formula: str, last: int) -> int:
-    """A formula of the table, such as 10 + 20n + 4(J+1)(J+2)."""
-    product = re.sub(r"(?<=[\dn)])(?=[n(])", "*", formula)
-    return eval(product, {"__builtins__": {}}, {"n": 2 * last + 1, "J": last})
+    """A formula of the table, such as 10 + 20N + 4(J+1)(J+2)."""
+    product = re.sub(r"(?<=[\dN)])(?=[N(])", "*", formula)
+    return eval(product, {"__builtins__": {}}, {"N": 2 * last + 1, "J": last})
 
 
 class File(unittest.TestCase):
@@ -50,8 +50,8 @@ class File(unittest.TestCase):
             paid, incurred = (layout.amount_place(last, channel, 0, 0) for channel in (layout.PAID, layout.INCURRED))
             wanted = [layout.variance_place(0), layout.prior_mean_place(last, 0), paid, incurred]
             self.assertEqual([place_of(row[0], last) for row in table], wanted)
-            self.assertEqual(place_of("10 + 20n + 8(J+1)(J+2)", last), layout.file_length(last))
-        self.assertIn("| 10 + 20n + 8(J+1)(J+2) |", section("The file"))
+            self.assertEqual(place_of("10 + 20N + 8(J+1)(J+2)", last), layout.file_length(last))
+        self.assertIn("| 10 + 20N + 8(J+1)(J+2) |", section("The file"))
 
     def test_number_of_a_cell(self) -> None:
         self.assertIn("amount number i(J+1) − i(i−1)/2 + j", section("The file"))
@@ -102,7 +102,7 @@ class Closeness(unittest.TestCase):
         u, m = exact.solve(figures.matrix, figures.right_hand_side)
         exactly = [float(Fraction(part, m)) for part in u]
         total = self.total(2, exactly)
-        self.assertIn(f"come to {total:,.0f})", section("The test"))
+        self.assertIn(f"come to {total:,.0f},", section("The test"))
         for e, settled, apart, high, low in table:
             found = self.total(e, paper.settled_mean(paper.tables_file(e)))
             moved = [self.total(e, [part + sign * e for part in exactly]) - total for sign in (1, -1)]
@@ -112,6 +112,19 @@ class Closeness(unittest.TestCase):
         for file in (samples.file_f(), paper.tables_file(256)):
             figures = chain.figures_of(file)
             self.assertEqual(tuple(map(sum, figures.matrix)), figures.own)
+
+    def test_nothing_that_passes_is_further_apart(self) -> None:
+        """Residues of at most e·D move year i's expected logarithm by at most i·e, and a part by the sum of its row of A⁻¹·D times e."""
+        file = paper.tables_file(256)
+        own = chain.figures_of(file).own
+        covariance = paper.inverse(chain.figures_of(file).matrix)
+        for year in range(1, file.last + 1):
+            direction = paper.direction(file, year)
+            reach = [abs(sum(share * row[k] for share, row in zip(direction, covariance))) * own[k] for k in range(len(own))]
+            self.assertAlmostEqual(sum(reach), year, delta=1e-6)
+        reaches = [sum(abs(entry) * weight for entry, weight in zip(row, own)) for row in covariance]
+        farthest = max(range(len(own)), key=reaches.__getitem__)
+        self.assertIn(f"in the sample Φ_{farthest} by {reaches[farthest]:.1f}·e", section("The test"))
 
     def total(self, e: int, mean: tuple[int, ...] | list[float]) -> float:
         return sum(paper.reserves(paper.tables_file(e), mean))
