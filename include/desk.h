@@ -1,8 +1,8 @@
-/* The reserving desk for C and C++: its calls, from libdesk.a or libdesk.so.
+/* The reserving desk for C11 and C++11 or newer: its calls, from libdesk.a or libdesk.so.
  *
  *     desk_session session = DESK_EMPTY;
  *     desk_refusal refusal = desk_open(&session, file, length);
- *     if (refusal.number != 0) puts(desk_refusal_text(refusal.number));
+ *     if (refusal.number != 0) printf("%s, at byte %u\n", desk_refusal_text(refusal.number), (unsigned)refusal.place);
  *
  * docs/SPECIFICATION.md says what each call does: "The file" and "The mean record" have the bytes, "The calls" the answers,
  * "Refusals" the numbers with their places, and "What is guaranteed" what an answer is worth.
@@ -36,11 +36,12 @@ extern "C" {
 #define DESK_PAID UINT64_C(0) /* the channels of a row */
 #define DESK_INCURRED UINT64_C(1)
 #define DESK_MOST_SWEEPS UINT64_C(4096) /* for one open file */
+#define DESK_LONGEST_FILE 2806u         /* a file has 10 + 20(2J+1) + 8(J+1)(J+2) bytes */
 #define DESK_LONGEST_RECORD 129u        /* a mean record has 5 + 4(2J+1) bytes */
 
-/* A session: empty, or an accepted file's figures with a mean and the sweeps run. The fields are the library's; a session may
- * be copied, and the copy is a session of its own. Bytes that no call has left there count as an empty session or as an open
- * one, and are safe in both cases; the guarantee of a passed mean is for sessions that start as DESK_EMPTY. */
+/* A session, of some 8 KB: empty, or an accepted file's figures with a mean and the sweeps run. The fields are the library's; a
+ * session may be copied, and the copy is a session of its own. Bytes that no call has left there count as an empty session or
+ * as an open one, and are safe in both cases; the guarantee of a passed mean is for sessions that start as DESK_EMPTY. */
 typedef struct desk_session {
     uint64_t held[3]; /* J (0 while nothing is open), closeness, sweeps run since open */
     uint64_t own[31];

@@ -164,6 +164,7 @@ class Limits(unittest.TestCase):
             "DESK_PAID": layout.PAID,
             "DESK_INCURRED": layout.INCURRED,
             "DESK_MOST_SWEEPS": value("sweepLimit"),
+            "DESK_LONGEST_FILE": layout.LONGEST_FILE,
             "DESK_LONGEST_RECORD": layout.record_length(layout.LARGEST_YEAR),
         })
 
