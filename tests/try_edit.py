@@ -1,0 +1,67 @@
+"""Tries one must-fail edit of a crate alone, in seconds, and shows the first error that refuses it.
+
+    python3 tests/try_edit.py crates/session/must-fail/spent_before_4096.edit
+
+The kit's own command tries every edit of a crate and of what it depends on. Here the edit is made in a copy, over what was proved
+before; the error must name the fact that the edit is about.
+"""
+
+import re
+import shutil
+import subprocess
+import sys
+import tempfile
+from pathlib import Path
+
+from declared import ROOT
+
+PROVED = ("rlib", "stamp", "inc")  # what the kit keeps of proofs
+
+
+def changes(edit: Path) -> list[tuple[str, str, str]]:
+    """File, old and new text: a file may have several, and an edit several files."""
+    found, file, old = [], "", ""
+    for line in edit.read_text().splitlines():
+        key, _, value = line.partition(": ")
+        if key == "file":
+            file = value
+        elif key == "old":
+            old = value
+        elif key == "new":
+            found.append((file, old, value))
+    return found
+
+
+def copy_to(folder: Path) -> None:
+    shutil.copytree(ROOT / "crates", folder / "crates", ignore=shutil.ignore_patterns("must-fail"))
+    shutil.copy(ROOT / "crates.txt", folder)
+    for name in PROVED:
+        if (ROOT / "target" / name).is_dir():
+            shutil.copytree(ROOT / "target" / name, folder / "target" / name)
+
+
+def tried(edit: Path) -> str:
+    """What the kit says of the crate with the edit made."""
+    crate = edit.parent.parent.name
+    with tempfile.TemporaryDirectory() as name:
+        copy_to(Path(name))
+        for file, old, new in changes(edit):
+            path = Path(name, "crates", crate, file)
+            if path.read_text().count(old) != 1:
+                sys.exit(f"{edit.name}: its old text is {path.read_text().count(old)} times in {file}: {old}")
+            path.write_text(path.read_text().replace(old, new))
+        done = subprocess.run(["rt", "dev", crate], cwd=name, capture_output=True, text=True)
+    return (done.stdout + done.stderr).replace(f"{name}/", "")
+
+
+def main() -> int:
+    if len(sys.argv) != 2 or not Path(sys.argv[1]).is_file():
+        print(__doc__, file=sys.stderr)
+        return 2
+    first = re.search(r"^.*: error.*(?:\n(?!.*: (?:error|note)).*){0,12}", tried(Path(sys.argv[1]).resolve()), re.MULTILINE)
+    print(first[0] if first else "not refused")
+    return 0 if first else 1
+
+
+if __name__ == "__main__":
+    sys.exit(main())
