@@ -7,14 +7,19 @@ from math import log, sqrt
 from pathlib import Path
 
 import chain
+import damage
 import exact
 import layout
 import paper
 import samples
+import session
 from listing import listing
 from scales import TICKS_PER_DOUBLING as T
+from scales import logarithm, weight
 
-TEXT = (Path(__file__).resolve().parent.parent / "docs" / "SPECIFICATION.md").read_text()
+ROOT = Path(__file__).resolve().parent.parent
+README = (ROOT / "README.md").read_text()
+TEXT = (ROOT / "docs" / "SPECIFICATION.md").read_text()
 
 
 def section(name: str) -> str:
@@ -34,6 +39,16 @@ def number(text: str) -> int:
 
 def numbers(text: str) -> list[int]:
     return [number(found) for found in re.findall(r"[−-]?\d[\d,]*\d|[−-]?\d", text)]
+
+
+def computed(formula: str, **values: int) -> int:
+    """A formula such as floor((a − 2r) / (2a)), in which a division is one that is rounded down."""
+    product = re.sub(r"(?<=\d)(?=[a-z])", "*", formula.replace("−", "-").replace("·", "*").replace("^", "**").replace("/", "//"))
+    return eval(product, {"__builtins__": {}}, {"floor": lambda quotient: quotient, **values})
+
+
+def opened(closeness: int) -> session.State:
+    return session.open_file(session.EMPTY, layout.build_file(samples.file_f(closeness)))[1]
 
 
 def place_of(formula: str, last: int) -> int:
@@ -86,6 +101,90 @@ class Figures(unittest.TestCase):
         self.assertEqual([T * factor for factor in numbers(re.sub(r", ", "; ", said[3]))], list(figures.right_hand_side))
 
 
+class Examples(unittest.TestCase):
+    def assert_said(self, name: str, text: str) -> None:
+        self.assertIn(text, " ".join(section(name).split()))
+
+    def test_logarithms_and_weights(self) -> None:
+        logs = {a: logarithm(a) for a in (1, 1 << 40, 3, 5)}
+        self.assertEqual((logs[1], logs[1 << 40] % T), (0, 0))
+        self.assert_said("From amounts to the loss", f"1 has 0, 2^40 has {logs[1 << 40] // T}T = {logs[1 << 40]:,}, "
+                                                     f"3 has {logs[3]:,} and 5 has {logs[5]:,}.")
+        self.assertEqual((weight(1 << 18), weight(1 << 46)), (1 << 28, 1))
+        self.assert_said("From amounts to the loss", "2^28 for 2^18, 1 for 2^46")
+
+    def test_of_file_f(self) -> None:
+        weights = chain.weights_of(samples.file_f())
+        self.assertEqual({*weights.p, *weights.q}, {65_536})
+        self.assert_said("The figures", f"p = q = {weights.p[0]:,}, g_0 = {weights.g[0]:,}, every prior has weight {weights.s[0]}")
+        figures = chain.figures_of(samples.file_f())
+        residue = chain.residues_of(figures, (10 * T + 1, T, -T))[0]
+        self.assert_said("The test", f"so does (10T+1, T, −T), with residue {residue:,}")
+        answers = [session.judge(opened(e), layout.build_record(mean)) for e, mean in (
+            (1, (10 * T, T, -T)), (1, (10 * T + 1, T, -T)), (1, (10 * T + 2, T, -T)), (1, (10 * T, T + 1, -T)), (2, (10 * T, T + 1, -T)),
+        )]
+        self.assertEqual(answers, [session.Passed(), session.Passed(), session.Fails(0), session.Fails(1), session.Passed()])
+        self.assert_said("The test", "(10T+2, T, −T) fails at part 0 and (10T, T+1, −T) at part 1, though the latter passes with e = 2")
+
+    def test_refusals_of_file_f(self) -> None:
+        f = layout.build_file(samples.file_f())
+        for place, amount, said in ((86, 0, "is refused with {} at {};"), (102, 4_096, "at byte 102, with {} at {}.")):
+            refusal = layout.read_file(damage.put(f, place, amount, 8))
+            self.assert_said("Refusals", said.format(refusal.number, refusal.place))
+
+
+class Formulas(unittest.TestCase):
+    """Each is read from the text and computed beside the reference's."""
+
+    def test_weight(self) -> None:
+        formula = re.search(r"of a variance v \(`Weight`\): (floor\(.*?\)),", section("From amounts to the loss"))[1]
+        for v in (1 << 18, (1 << 18) + 1, 3 << 30, (1 << 40) - 1, 1 << 46, 12_345_678_901):
+            self.assertEqual(computed(formula, v=v), weight(v))
+
+    def test_own_weights(self) -> None:
+        of_phi, of_psi = next(row[1:] for row in rows(section("The figures"), 3) if row[0] == "own weight D")
+        for file in (samples.file_f(), paper.tables_file(256)):
+            weights, J = chain.weights_of(file), file.last
+            phi = [computed(of_phi, J=J, j=j, s_j=weights.s[j], p_j=weights.p[j]) for j in range(J + 1)]
+            psi = [computed(of_psi, J=J, j=j, t_j=weights.t[j], q_j=weights.q[j]) for j in range(J)]
+            self.assertEqual((*phi, *psi), chain.figures_of(file).own)
+
+    def test_step(self) -> None:
+        formula = re.search(r"changes by (floor\(.*?\)), which", " ".join(section("The calls").split()))[1]
+        for a, r in ((4, 2), (4, -2), (5, 7), (131_073, -65_537), (98_305, 1 << 58), (1, 0)):
+            nearest = (2 * Fraction(-r, a) + 1) // 2  # a half goes up
+            self.assertEqual(computed(formula, a=a, r=r), nearest)
+
+    def test_entries_of_the_matrix(self) -> None:
+        told = dict(rows(section("The figures"), 2))
+        self.assertEqual(told["Φ_j and Φ_l"], "g_0 + … + g_(min(j,l)−1), which for Φ_0 is nothing")
+        self.assertEqual(told["Ψ_j and Ψ_l"], "g_0 + … + g_min(j,l)")
+        self.assertEqual(told["Φ_j and Ψ_l"], "−(g_0 + … + g_min(j−1,l)), which for Φ_0 is nothing")
+        file = paper.tables_file(256)
+        figures, g, J = chain.figures_of(file), chain.weights_of(file).g, file.last
+        up_to = [sum(g[:count]) for count in range(J + 1)]  # g_0 to g_(count−1)
+        for j in range(J + 1):
+            phi = [up_to[min(j, l)] + figures.own[j] * (j == l) for l in range(J + 1)] + [-up_to[min(j - 1, l) + 1] for l in range(J)]
+            self.assertEqual(figures.matrix[j], tuple(phi))
+        for j in range(J):
+            psi = [-up_to[min(l - 1, j) + 1] for l in range(J + 1)]
+            psi += [up_to[min(j, l) + 1] + figures.own[J + 1 + j] * (j == l) for l in range(J)]
+            self.assertEqual(figures.matrix[J + 1 + j], tuple(psi))
+
+    def test_sums_of_the_right_hand_side(self) -> None:
+        """Over i = J−j+1..J for phi and J−j..J for psi, as the reference adds them."""
+        phi, psi = next(row[1:] for row in rows(section("The figures"), 3) if row[0] == "right-hand side b")
+        self.assertTrue(phi.endswith("+ (sum of g_(J−i)·y_i over i = J−j+1..J)") and psi.endswith("− (sum of g_(J−i)·y_i over i = J−j..J)"))
+        file = paper.tables_file(256)
+        weights, seen, J = chain.weights_of(file), chain.observations_of(file), file.last
+        share = {i: weights.g[J - i] * seen.y[i] for i in range(1, J + 1)}
+        of_phi = [weights.s[j] * file.prior_means[j] + weights.p[j] * sum(seen.x[i][j] for i in range(J - j + 1))
+                  + sum(share[i] for i in range(J - j + 1, J + 1)) for j in range(J + 1)]
+        of_psi = [weights.t[j] * file.prior_means[J + 1 + j] + weights.q[j] * sum(seen.z[i][j] for i in range(J - j))
+                  - sum(share[i] for i in range(J - j, J + 1)) for j in range(J)]
+        self.assertEqual((*of_phi, *of_psi), chain.figures_of(file).right_hand_side)
+
+
 class Listing(unittest.TestCase):
     def test_of_f(self) -> None:
         shown = re.search(r"^((?:    .*\n)+)", section("The calls"), re.MULTILINE)[1]
@@ -107,6 +206,9 @@ class Closeness(unittest.TestCase):
             found = self.total(e, paper.settled_mean(paper.tables_file(e)))
             moved = [self.total(e, [part + sign * e for part in exactly]) - total for sign in (1, -1)]
             self.assertEqual([settled, apart, high, low], [round(found), round(found) - round(total), *map(round, moved)])
+        two, advised, most = (row[1] for row in table)
+        said = f"reserves come to {two:,} with closeness 2, {advised:,} with 256 and {most:,} with 65,536"
+        self.assertIn(said, " ".join(README.split()))
 
     def test_every_part_moved_by_e_passes_just_so(self) -> None:
         for file in (samples.file_f(), paper.tables_file(256)):

@@ -118,6 +118,14 @@ class Installed(unittest.TestCase):
             described = self.installed(desk, "a & b", desk.root / "a & b")
             self.assertIn(f"prefix={desk.root}/a\\ &\\ b\n", described)
 
+    def test_a_prefix_that_pkg_config_cannot_read(self) -> None:
+        with checkout() as desk:
+            for prefix in ("a'b", 'a"b', "a\\b", "a#b", "a$b", "a%b", "a\nb"):
+                done = desk.run("build", "--install", prefix)
+                self.assertEqual((done.returncode, done.stdout), (2, ""))
+                self.assertRegex(done.stderr, "^build: PREFIX may have no quote")
+            self.assertEqual(desk.calls_of_rt(), [])
+
     def test_destdir_is_no_part_of_the_prefix(self) -> None:
         with checkout() as desk:
             stage = desk.tools.parent / "stage"

@@ -1,4 +1,4 @@
-"""The gate leaves nothing out: where a tool that a test wants is not there, it fails and names the tool. It says each step before
+"""The gate tests the C interface: where a tool for that is not there, it fails and names the tool. It says each step before
 it runs it, and its last line is the verdict of the proofs."""
 
 import re
@@ -25,7 +25,7 @@ TOOLS = ("cc", "c++", "valgrind")
 def gate_with(*tools: str) -> subprocess.CompletedProcess[str]:
     """The gate on a machine that has these tools and a kit. They do nothing, and without python3 no test of it runs."""
     with tempfile.TemporaryDirectory() as folder:
-        for name in ("bash", "dirname"):
+        for name in ("bash", "dirname", "readlink"):
             Path(folder, name).symlink_to(shutil.which(name))
         for name in ("rt", *tools):
             Path(folder, name).symlink_to(shutil.which("true"))

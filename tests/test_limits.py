@@ -136,6 +136,7 @@ class Limits(unittest.TestCase):
         room = re.search(r"^ +pub room : (\d+) ≤ closeness f$", DEFINITIONS, re.MULTILINE)[1]
         for text in (README, SPECIFICATION):
             self.assertEqual(re.findall(r"with e ≥ (\d+),", text), [room])
+            self.assertEqual(re.findall(r"Use (?:closeness )?(\d+)\b", text), [room])
 
     def test_of_the_reference(self) -> None:
         for number, limits in (

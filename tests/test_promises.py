@@ -45,11 +45,11 @@ class Promises(unittest.TestCase):
 
     def test_nothing_is_left_out_of_the_tests(self) -> None:
         for command in (
-            "python3 -m unittest discover --quiet --start-directory tests", "python3 tests/documents.py", "python3 tests/believed.py",
-            "python3 tests/unused.py", "python3 -m unittest discover --quiet --start-directory reference",
+            "python3 tests/suite.py tests", "python3 tests/documents.py", "python3 tests/believed.py",
+            "python3 tests/unused.py", "python3 tests/suite.py reference",
             "python3 reference vectors --check", "python3 tests/edits_across_crates.py", "rt ci |", "python3 tests/compare_programs.py",
             "python3 tests/run_listings.py", "./build", "tests/c/run", "tests/c/install",
-            "python3 -m unittest discover --quiet --start-directory python/tests", "python3 tests/snippets.py",
+            "python3 tests/suite.py python/tests", "python3 tests/snippets.py",
         ):
             self.assertRegex(text_of("test"), rf"(?m)^ *(?:if .*; then )?{re.escape(command)}")
         for step in ("replay", "list", "write"):

@@ -5,6 +5,7 @@ import os
 import signal
 import subprocess
 import unittest
+from socket import AF_UNIX, socket
 
 from checkout import checkout
 
@@ -70,6 +71,13 @@ class Input(unittest.TestCase):
                 self.assertEqual((done.returncode, done.stdout), (2, ""))
                 self.assertEqual(done.stderr, f"run: {name} is no file that can be read\n")
             self.assertEqual(desk.calls_of_rt(), [])
+
+    def test_that_cannot_be_opened(self) -> None:
+        with checkout() as desk, socket(AF_UNIX) as bound:
+            desk.listing("echo 'J 1'")
+            bound.bind(str(desk.root / "socket"))
+            done = desk.run("run", "socket")
+            self.assertEqual((done.returncode, done.stdout, done.stderr), (2, "", "run: socket cannot be read\n"))
 
 
 class Building(unittest.TestCase):

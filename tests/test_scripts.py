@@ -37,6 +37,28 @@ class Words(unittest.TestCase):
             self.assertEqual(desk.calls_of_rt(), [])
 
 
+class Place(unittest.TestCase):
+    """A script finds what stands beside it, wherever and however it is called."""
+
+    def done_from(self, desk: Checkout, *words: str, **variables: str) -> tuple[int, str, str]:
+        command = [str(desk.tools / "bash"), *words]
+        done = subprocess.run(command, env=desk.environment(**variables), cwd=desk.root.parent, capture_output=True, text=True, timeout=60)
+        return done.returncode, done.stdout, done.stderr
+
+    def test_through_a_link_and_with_a_path_for_cd(self) -> None:
+        with checkout() as desk:
+            desk.listing("echo 'J 1'")
+            listed = desk.write("a.file", "")
+            link = desk.root.parent / "a link"
+            link.symlink_to(desk.root / "run")
+            for script in ("desk/run", str(link)):
+                for variables in ({}, {"CDPATH": "."}, {"CDPATH": str(desk.tools)}):
+                    self.assertEqual(self.done_from(desk, script, str(listed), **variables), (0, "J 1\n", ""))
+            self.assertEqual(self.done_from(desk, "desk/build", CDPATH=".")[0], 0)
+            for script in SCRIPTS:
+                self.assertEqual(self.done_from(desk, f"desk/{script}", "--help", CDPATH=".")[::2], (0, ""))
+
+
 class Kit(unittest.TestCase):
     def test_is_pinned_in_one_line(self) -> None:
         self.assertRegex((ROOT / "kit.txt").read_text(), r"\Arattle-kit-\S+ logic [0-9a-f]{16}\n\Z")

@@ -1,4 +1,4 @@
-"""The desk has one version: that of the header is the package's."""
+"""The desk has one version: that of the header is the package's, and the newest of the changelog."""
 
 import re
 import sys
@@ -15,6 +15,10 @@ class Version(unittest.TestCase):
     def test_of_the_header(self) -> None:
         header = (ROOT / "include" / "desk.h").read_text()
         self.assertEqual(re.findall(r'^#define DESK_VERSION "(.*)"', header, re.MULTILINE), [reserving_desk.__version__])
+
+    def test_of_the_changelog(self) -> None:
+        headings = re.findall(r"^## (.*)", (ROOT / "CHANGELOG.md").read_text(), re.MULTILINE)
+        self.assertEqual(headings[0], reserving_desk.__version__)
 
     def test_three_numbers(self) -> None:
         self.assertRegex(reserving_desk.__version__, r"^\d+\.\d+\.\d+$")

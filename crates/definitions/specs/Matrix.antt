@@ -46,7 +46,7 @@ module _ (c : Chain) where
   ratiosOfLast n = sum n (λ k. pos (c .g (c .last - (c .last - n + 1 + k))) *ℤ c .y (c .last - n + 1 + k))
 
   -- The right-hand side: Φ_j has the ratios of i ≥ J−j+1, j of them; Ψ_j those of i ≥ J−j, j + 1 of them. (Trap: not of i ≥ J−1,
-  -- as the theorem reads in our copy.)
+  -- as the theorem is printed in some copies of the paper.)
   abbrev pub targetOf : Part → ℤ
   targetOf (Φ j) = pos (c .s j) *ℤ c .priorΦ j +ℤ pos (c .p j) *ℤ sum (c .last - j + 1) (λ i. c .x i j) +ℤ ratiosOfLast j
   targetOf (Ψ j) = pos (c .t j) *ℤ c .priorΨ j +ℤ pos (c .q j) *ℤ sum (c .last - j) (λ i. c .z i j) -ℤ ratiosOfLast (j + 1)

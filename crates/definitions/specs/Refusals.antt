@@ -14,7 +14,7 @@ pub data Check : Type 0 where
   clear : Check
   refuses : (number place : ℕ) → Check
 
--- a condition of the document: refused unless it holds
+-- one condition: refused unless it holds
 abbrev pub unless : Bool → ℕ → ℕ → Check
 unless true number place = clear
 unless false number place = refuses number place
