@@ -12,16 +12,16 @@ use Rattle.definitions.specs.Refusals.{yearLimit}
 use Rattle.definitions.specs.Observations.{chainOf}
 use Rattle.definitions.specs.Matrix as D
 use Rattle.definitions.specs.Matrix.{entry}
-use Rattle.definitions.specs.Machine.{accepted}
+use Rattle.definitions.specs.Machine.{accepted, empty}
 use Rattle.laws.specs.Accepted.{accepted-file}
 use Rattle.laws.specs.Judged.{tab-at}
 use Rattle.chain.specs.Arrays.{figuresAt, figuresOf}
 use Rattle.session.specs.declared.Session.{Session}
-use Rattle.session.specs.declared.answers.FiguresAnswer.the-variants.{Shown, Refused}
+use Rattle.session.specs.declared.answers.FiguresAnswer.the-variants.{Shown}
 use Rattle.session.specs.declared.answers.Showing.{Showing}
 use Rattle.session.specs.State.{Fits, stateOf}
 use Rattle.session.specs.StateLaws.{stateOf-held, stateOf-empty}
-use Rattle.session.specs.Calls.{inArrays, noFigures, showsTo, FiguresOf, Shows}
+use Rattle.session.specs.Calls.{inArrays, showsTo, FiguresOf, Shows}
 use Rattle.session.specs.Shown.{ownShown, rightHandShown, entryShown, matrixShown}
 
 -- row k, column l
@@ -68,9 +68,8 @@ module _ (s : Session) where
         subst (λ x. FiguresOf f (x .figures)) (sym is) (of-file f (accepted-file f good .years .to)),
       )
 
-  pub shows-closed : ¬ Fits s → Shows s (record { answer = Refused 21 0; figures = noFigures })
-  unfolding showsTo
-  shows-closed h = shows _ (rw (stateOf-empty s h) refl)
+  pub shows-closed : ¬ Fits s → (r : Showing) → r ≡ showsTo empty → Shows s r
+  shows-closed h r e = shows r (e ∙ ap showsTo (sym (stateOf-empty s h)))
 
   -- the arrays that the code makes
   module _ (h : Fits s) where

@@ -13,7 +13,7 @@ use crate::answers::SweepAnswer;
 use crate::bounds::frame_fits;
 use crate::bounds::is_open;
 use crate::shown::matrix_shown;
-use crate::shown::no_figures;
+use crate::shown::nothing_shown;
 use crate::shown::own_shown;
 use crate::shown::right_hand_shown;
 use chain::arrays::Figures;
@@ -202,7 +202,7 @@ pub fn read_lent<'a>(
     ReadAnswer::Written
 }
 
-// 21. The session is as it was.
+// 21. The session is as it was. The rows of the matrix are tested where they are shown: one pass.
 pub fn figures_lent<'a>(
     last: usize,
     closeness: u64,
@@ -216,16 +216,16 @@ pub fn figures_lent<'a>(
         (sessionAt last closeness total (now (own .entry)) (now (matrix .entry)) (now («right_hand» .entry)) (now (mean .entry)))
         r ⌝ }
 {
-    if !is_open(last, closeness, total, own, matrix, right_hand, mean) {
-        let nothing = no_figures();
-        return Showing {
-            answer: FiguresAnswer::Refused(21, 0),
-            figures: nothing,
-        };
+    if !frame_fits(last, closeness, total, own, matrix, right_hand, mean) {
+        return nothing_shown();
     }
     let count = 2 * last + 1;
+    let tested = matrix_shown(count, matrix);
+    if !tested.fit {
+        return nothing_shown();
+    }
+    let entries = tested.matrix;
     let weights = own_shown(count, own);
-    let entries = matrix_shown(count, matrix);
     let targets = right_hand_shown(count, right_hand);
     let shown = Figures {
         last: last,

@@ -1,9 +1,19 @@
 // What is shown of an open file's figures. A session counts the entries on and below the diagonal alone, and nothing behind the
 // parts 0..2J, `count` of them: what is shown has both halves of the matrix, and zeros behind the parts.
 ghost use mathlib.Core.Path.{_≡_};
-ghost use Rattle.session.specs.Calls.{noFigures};
-ghost use Rattle.session.specs.Shown.{OfParts, OfEntry, ownShown, rightHandShown, entryShown, matrixShown};
+ghost use Rattle.definitions.specs.Machine.{State};
+ghost use Rattle.session.specs.Calls.{noFigures, showsTo};
+ghost use Rattle.session.specs.Shown.{OfParts, OfRow, ownShown, rightHandShown, RowShown, MatrixOf};
+use crate::answers::FiguresAnswer;
+use crate::answers::Showing;
 use chain::arrays::Figures;
+use chain::residues::entry_fits;
+
+// What is shown of a matrix whose rows fit.
+pub struct TestedMatrix {
+    pub fit: bool,
+    pub matrix: [i64; 961],
+}
 
 // The figures of no file.
 pub fn no_figures() -> Figures
@@ -15,6 +25,17 @@ pub fn no_figures() -> Figures
         own: [0; 31],
         matrix: [0; 961],
         right_hand: [0; 31],
+    }
+}
+
+// What is shown where nothing is open.
+pub fn nothing_shown() -> Showing
+    ensures { λ r. ⌜ r ≡ showsTo State.empty ⌝ }
+{
+    let nothing = no_figures();
+    Showing {
+        answer: FiguresAnswer::Refused(21, 0),
+        figures: nothing,
     }
 }
 
@@ -46,35 +67,47 @@ pub fn right_hand_shown(count: usize, right_hand: &[i64; 31]) -> [i64; 31]
     shown
 }
 
-// The entry at c: row c / 31, column c % 31.
-fn entry_shown(count: usize, matrix: &[i64; 961], c: usize) -> i64
-    requires { ⌜ OfEntry count c ⌝ }
-    ensures { λ r. ⌜ r ≡ entryShown count (now (matrix .entry)) c ⌝ }
+// Row k: up to the diagonal as it stands, behind it the entries of column k, each tested where it is read. Tells whether they fit.
+fn row_shown(count: usize, matrix: &[i64; 961], shown: &mut [i64; 961], k: usize) -> bool
+    requires { ⌜ OfRow count (now matrix) (now shown) k ⌝ }
+    ensures { λ r. ⌜ RowShown count (now (matrix .entry)) k r (now (shown .exit)) ⌝ }
 {
-    let k = c / 31;
-    let l = c % 31;
-    if count <= k {
-        return 0;
+    let row = 31 * k;
+    let mut l = 0usize;
+    while l <= k {
+        let entry = matrix[row + l];
+        shown[row + l] = entry;
+        l += 1;
     }
-    if count <= l {
-        return 0;
+    while l < count {
+        let entry = matrix[31 * l + k];
+        if !entry_fits(entry) {
+            return false;
+        }
+        shown[row + l] = entry;
+        l += 1;
     }
-    if k < l {
-        return matrix[31 * l + k];
-    }
-    matrix[31 * k + l]
+    true
 }
 
-pub fn matrix_shown(count: usize, matrix: &[i64; 961]) -> [i64; 961]
+// One pass tests the matrix and shows it.
+pub fn matrix_shown(count: usize, matrix: &[i64; 961]) -> TestedMatrix
     requires { ⌜ OfParts count ⌝ }
-    ensures { λ r. ⌜ r ≡ matrixShown count (now (matrix .entry)) ⌝ }
+    ensures { λ r. ⌜ MatrixOf count (now (matrix .entry)) r ⌝ }
 {
     let mut shown = [0i64; 961];
-    let mut c = 0usize;
-    while c < 961 {
-        let entry = entry_shown(count, matrix, c);
-        shown[c] = entry;
-        c += 1;
+    let mut k = 0usize;
+    while k < count {
+        if !row_shown(count, matrix, &mut shown, k) {
+            return TestedMatrix {
+                fit: false,
+                matrix: shown,
+            };
+        }
+        k += 1;
     }
-    shown
+    TestedMatrix {
+        fit: true,
+        matrix: shown,
+    }
 }

@@ -1,25 +1,22 @@
 -- `lent::figures_lent` meets its contract: 21 where nothing is open, and otherwise the figures that are held, whole.
-use Prim.Native.Nat.{_≤_}
-use mathlib.Core.Path.{sym, subst}
+use mathlib.Core.Path.{_≡_}
+use mathlib.Core.Bool.{true}
 use native.Mathlib.Omega.{arith}
 use borrow.Author.Needs.{needs}
 use denote.Ref.{now}
-use Rattle.definitions.specs.Refusals.{yearLimit}
 use Rattle.chain.specs.Decides.{not-yes, not-no}
 use Rattle.session.specs.declared.Session.{Session}
-use Rattle.session.specs.declared.answers.FiguresAnswer.the-variants.{Refused}
 use Rattle.session.specs.State.{Fits, sessionAt}
-use Rattle.session.specs.Calls.{Shows}
 use Rattle.session.specs.ShowLaws.{shows-closed, shows-open}
-use Rattle.session.specs.Fitted.{frame}
+use Rattle.session.specs.Fitted.{Framed, fits, frame, rows}
 use Rattle.session.proofs.lent.figures_lent.Statement.{statement}
 use Rattle.session.proofs.lent.figures_lent.Tie as tie
 
-is-open-requires : tie.Need-is-open-requires
-is-open-requires c κs = search needs
+frame-fits-requires : tie.Need-frame-fits-requires
+frame-fits-requires c κs = search needs
 
-no-figures-requires : tie.Need-no-figures-requires
-no-figures-requires c κs = search needs
+nothing-shown-requires : tie.Need-nothing-shown-requires
+nothing-shown-requires c κs = search needs
 
 -- the session that is lent
 abbrev S : tie.Start → Session
@@ -27,39 +24,53 @@ S s = let a = s .args in sessionAt (a .last) (a .closeness) (a .total) (now (a .
 
 returns : tie.Need-returns
 returns c =
-    let closed = c .before in
-    subst (λ F. Shows (S (closed .before .before)) (record { answer = Refused 21 0; figures = F })) (sym (c .no-figures .ensures))
-    (shows-closed (S (closed .before .before)) (closed .before .is-open .ensures .when-no (not-yes (closed .if1 .taken))))
+    let a = c .before .before in
+    shows-closed (S (a .before)) (λ h. a .frame-fits .ensures .when-no (not-yes (c .before .if1 .taken)) (frame h)) _ (c .nothing-shown .ensures)
 
--- a file is open
-open-file : (c : tie.Else1) → Fits (S (c .before .before))
-open-file c = c .before .is-open .ensures .when-yes (not-no (c .if1 .left))
-
-few-years : (c : tie.Else1) → c .before .before .args .last ≤ yearLimit
-few-years c = frame (open-file c) .years
+framed : (c : tie.Else1) → Framed (S (c .before .before))
+framed c = c .before .frame-fits .ensures .when-yes (not-no (c .if1 .left))
 
 mul-count : tie.Need-mul-count
-mul-count c = omega (arith, few-years c)
+mul-count c = omega (arith, framed c .years)
 
 add-count : tie.Need-add-count
-add-count c = omega (arith, few-years c)
-
-own-shown-requires : tie.Need-own-shown-requires
-own-shown-requires c κs = record { few = omega (arith, few-years c) }
+add-count c = omega (arith, framed c .years)
 
 matrix-shown-requires : tie.Need-matrix-shown-requires
-matrix-shown-requires c κs = record { few = omega (arith, few-years (c .before)) }
+matrix-shown-requires c κs = record { few = omega (arith, framed c .years) }
 
-right-hand-shown-requires : tie.Need-right-hand-shown-requires
-right-hand-shown-requires c κs = record { few = omega (arith, few-years (c .before .before)) }
+nothing-shown-requires-2 : tie.Need-nothing-shown-requires-2
+nothing-shown-requires-2 c κs = search needs
 
 returns-2 : tie.Need-returns-2
 returns-2 c =
-    let filled = c .before in
-    let weighed = filled .before in
-    shows-open _ (open-file (weighed .before)) (weighed .own-shown .ensures) (filled .matrix-shown .ensures) (c .right-hand-shown .ensures)
+    let a = c .before .before .before in
+    let too-large = a .matrix-shown .ensures .fit .when-no (not-yes (c .before .if2 .taken)) in
+    shows-closed (S (a .before .before .before)) (λ h. too-large (rows h)) _ (c .nothing-shown2 .ensures)
+
+-- the rows fit too
+module _ (c : tie.Else2) where
+  abbrev shown : tie.After-matrix-shown
+  shown = c .before .before
+
+  fit : shown .matrix-shown .result .fit ≡ true
+  fit = not-no (c .if2 .left)
+
+  open-file : Fits (S (shown .before .before .before))
+  open-file = fits (framed (shown .before)) (shown .matrix-shown .ensures .fit .when-yes fit)
+
+own-shown-requires : tie.Need-own-shown-requires
+own-shown-requires c κs = record { few = omega (arith, framed (shown (c .before) .before) .years) }
+
+right-hand-shown-requires : tie.Need-right-hand-shown-requires
+right-hand-shown-requires c κs = record { few = omega (arith, framed (shown (c .before .before) .before) .years) }
+
+returns-3 : tie.Need-returns-3
+returns-3 c =
+    let e = c .before .before .before in
+    shows-open _ (open-file e) (c .before .own-shown .ensures) (shown e .matrix-shown .ensures .is (fit e)) (c .right-hand-shown .ensures)
 
 pub figures-lent-spec : {M : Type 1} → statement M
 figures-lent-spec = tie.close (tie.spec
-    is-open-requires no-figures-requires returns mul-count add-count own-shown-requires matrix-shown-requires right-hand-shown-requires
-    returns-2)
+    frame-fits-requires nothing-shown-requires returns mul-count add-count matrix-shown-requires nothing-shown-requires-2 returns-2
+    own-shown-requires right-hand-shown-requires returns-3)
