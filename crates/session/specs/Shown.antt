@@ -7,7 +7,7 @@ use mathlib.Core.List.{List, []}
 use native.Mathlib.Decide.{decLt}
 use native.Mathlib.Omega.{arith}
 use lib.IntN.{ℤ, pos, natAbs}
-use lib.ListN.{getD, List·getD-eq-default}
+use lib.ListN.{getD, replicate, List·getD-eq-default}
 use lib.Seq.{ext-getD}
 use Rattle.definitions.specs.Words.{tabFrom, part}
 use Rattle.laws.specs.Judged.{tab-at, tabFrom-length}
@@ -16,7 +16,6 @@ use Rattle.chain.specs.Decides.{Decides}
 use Rattle.chain.specs.Fitting.{entryLimit}
 use Rattle.chain.specs.Residues.{RowsFit}
 use Rattle.figures.specs.Filled.{Filled}
-use Rattle.session.specs.declared.shown.TestedMatrix.{TestedMatrix}
 
 pub record OfParts (count : ℕ) : Type 0 where
   pub few : count ≤ 31
@@ -51,9 +50,13 @@ pub record RowShown (count : ℕ) (A : List ℤ) (k : ℕ) (r : Bool) (v : List 
   pub fits : Decides (ColumnFits A k count) r
   pub shown : r ≡ true → ShownTo count A (31 * (k + 1)) v
 
-pub record MatrixOf (count : ℕ) (A : List ℤ) (r : TestedMatrix) : Type 0 where
-  pub fit : Decides (RowsFit A count) (r .fit)
-  pub is : r .fit ≡ true → r .matrix ≡ matrixShown count A
+pub record OfMatrix (count : ℕ) (v : List ℤ) : Type 0 where
+  pub few : count ≤ 31
+  pub empty : v ≡ replicate 961 (pos 0)
+
+pub record MatrixShown (count : ℕ) (A : List ℤ) (r : Bool) (v : List ℤ) : Type 0 where
+  pub fits : Decides (RowsFit A count) r
+  pub is : r ≡ true → v ≡ matrixShown count A
 
 -- ---- behind the end of a table
 

@@ -220,11 +220,10 @@ pub fn figures_lent<'a>(
         return nothing_shown();
     }
     let count = 2 * last + 1;
-    let tested = matrix_shown(count, matrix);
-    if !tested.fit {
+    let mut entries = [0i64; 961];
+    if !matrix_shown(count, matrix, &mut entries) {
         return nothing_shown();
     }
-    let entries = tested.matrix;
     let weights = own_shown(count, own);
     let targets = right_hand_shown(count, right_hand);
     let shown = Figures {

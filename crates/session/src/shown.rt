@@ -3,17 +3,11 @@
 ghost use mathlib.Core.Path.{_≡_};
 ghost use Rattle.definitions.specs.Machine.{State};
 ghost use Rattle.session.specs.Calls.{noFigures, showsTo};
-ghost use Rattle.session.specs.Shown.{OfParts, OfRow, ownShown, rightHandShown, RowShown, MatrixOf};
+ghost use Rattle.session.specs.Shown.{OfParts, OfRow, OfMatrix, ownShown, rightHandShown, RowShown, MatrixShown};
 use crate::answers::FiguresAnswer;
 use crate::answers::Showing;
 use chain::arrays::Figures;
 use chain::residues::entry_fits;
-
-// What is shown of a matrix whose rows fit.
-pub struct TestedMatrix {
-    pub fit: bool,
-    pub matrix: [i64; 961],
-}
 
 // The figures of no file.
 pub fn no_figures() -> Figures
@@ -90,24 +84,17 @@ fn row_shown(count: usize, matrix: &[i64; 961], shown: &mut [i64; 961], k: usize
     true
 }
 
-// One pass tests the matrix and shows it.
-pub fn matrix_shown(count: usize, matrix: &[i64; 961]) -> TestedMatrix
-    requires { ⌜ OfParts count ⌝ }
-    ensures { λ r. ⌜ MatrixOf count (now (matrix .entry)) r ⌝ }
+// One pass tests the matrix and shows it, in an array of zeros.
+pub fn matrix_shown(count: usize, matrix: &[i64; 961], shown: &mut [i64; 961]) -> bool
+    requires { ⌜ OfMatrix count (now shown) ⌝ }
+    ensures { λ r. ⌜ MatrixShown count (now (matrix .entry)) r (now (shown .exit)) ⌝ }
 {
-    let mut shown = [0i64; 961];
     let mut k = 0usize;
     while k < count {
-        if !row_shown(count, matrix, &mut shown, k) {
-            return TestedMatrix {
-                fit: false,
-                matrix: shown,
-            };
+        if !row_shown(count, matrix, shown, k) {
+            return false;
         }
         k += 1;
     }
-    TestedMatrix {
-        fit: true,
-        matrix: shown,
-    }
+    true
 }

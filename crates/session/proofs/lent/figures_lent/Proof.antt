@@ -1,5 +1,5 @@
 -- `lent::figures_lent` meets its contract: 21 where nothing is open, and otherwise the figures that are held, whole.
-use mathlib.Core.Path.{_≡_}
+use mathlib.Core.Path.{_≡_, refl}
 use mathlib.Core.Bool.{true}
 use native.Mathlib.Omega.{arith}
 use borrow.Author.Needs.{needs}
@@ -37,38 +37,39 @@ add-count : tie.Need-add-count
 add-count c = omega (arith, framed c .years)
 
 matrix-shown-requires : tie.Need-matrix-shown-requires
-matrix-shown-requires c κs = record { few = omega (arith, framed c .years) }
+matrix-shown-requires c κs = record { few = omega (arith, framed (c .before) .years); empty = refl }
 
 nothing-shown-requires-2 : tie.Need-nothing-shown-requires-2
 nothing-shown-requires-2 c κs = search needs
 
 returns-2 : tie.Need-returns-2
 returns-2 c =
-    let a = c .before .before .before in
-    let too-large = a .matrix-shown .ensures .fit .when-no (not-yes (c .before .if2 .taken)) in
-    shows-closed (S (a .before .before .before)) (λ h. too-large (rows h)) _ (c .nothing-shown2 .ensures)
+    let a = c .before .before in
+    let too-large = a .matrix-shown .ensures .fits .when-no (not-yes (c .before .if2 .taken)) in
+    shows-closed (S (a .before .before .before .before)) (λ h. too-large (rows h)) _ (c .nothing-shown2 .ensures)
 
 -- the rows fit too
 module _ (c : tie.Else2) where
-  abbrev shown : tie.After-matrix-shown
-  shown = c .before .before
+  abbrev frame-too : tie.Else1
+  frame-too = c .before .before .before
 
-  fit : shown .matrix-shown .result .fit ≡ true
-  fit = not-no (c .if2 .left)
+  rows-fit : c .before .matrix-shown .result ≡ true
+  rows-fit = not-no (c .if2 .left)
 
-  open-file : Fits (S (shown .before .before .before))
-  open-file = fits (framed (shown .before)) (shown .matrix-shown .ensures .fit .when-yes fit)
+  open-file : Fits (S (frame-too .before .before))
+  open-file = fits (framed frame-too) (c .before .matrix-shown .ensures .fits .when-yes rows-fit)
 
 own-shown-requires : tie.Need-own-shown-requires
-own-shown-requires c κs = record { few = omega (arith, framed (shown (c .before) .before) .years) }
+own-shown-requires c κs = record { few = omega (arith, framed (frame-too c) .years) }
 
 right-hand-shown-requires : tie.Need-right-hand-shown-requires
-right-hand-shown-requires c κs = record { few = omega (arith, framed (shown (c .before .before) .before) .years) }
+right-hand-shown-requires c κs = record { few = omega (arith, framed (frame-too (c .before)) .years) }
 
 returns-3 : tie.Need-returns-3
 returns-3 c =
-    let e = c .before .before .before in
-    shows-open _ (open-file e) (c .before .own-shown .ensures) (shown e .matrix-shown .ensures .is (fit e)) (c .right-hand-shown .ensures)
+    let e = c .before .before in
+    let matrix = e .before .matrix-shown .ensures .is (rows-fit e) in
+    shows-open _ (open-file e) (c .before .own-shown .ensures) matrix (c .right-hand-shown .ensures)
 
 pub figures-lent-spec : {M : Type 1} → statement M
 figures-lent-spec = tie.close (tie.spec

@@ -1,6 +1,6 @@
 -- `shown::matrix_shown` meets its contract. The loop's invariant: the rows passed are shown and their columns fit.
 use Prim.Native.Nat.{ℕ, _*_, _-_, _≤_, _<_}
-use mathlib.Core.Path.{_≡_}
+use mathlib.Core.Path.{_≡_, sym, subst}
 use mathlib.Core.Bool.{false≢true}
 use native.Mathlib.Omega.{arith}
 use denote.Ref.{now}
@@ -20,7 +20,7 @@ abbrev μ-loop : tie.MeasureT-loop
 μ-loop count matrix shown₀ k₀ shown k = count - k
 
 loop-holds : tie.Need-loop-holds Inv-loop μ-loop
-loop-holds c = (omega arith, λ l none. absurd (omega arith), filled-none 961 (pos 0) _)
+loop-holds c = (omega arith, λ l none. absurd (omega arith), subst (ShownTo _ _ 0) (sym (c .pre .empty)) (filled-none 961 (pos 0) _))
 
 row-shown-requires : tie.Need-row-shown-requires Inv-loop μ-loop
 row-shown-requires c κs =
@@ -32,7 +32,7 @@ returns c =
     let l = c .before .before .before in
     let row = c .before .row-shown .ensures .fits in
     record {
-      fit = decided-no (λ rows. row .when-no (not-yes (c .if1 .taken)) (λ i below above. rows i below (l .before .loop .k) above));
+      fits = decided-no (λ rows. row .when-no (not-yes (c .if1 .taken)) (λ i below above. rows i below (l .before .loop .k) above));
       is = λ e. absurd (false≢true e);
     }
 
@@ -64,7 +64,7 @@ returns-2 c =
     let count = s .args .count in
     let all : at .k ≡ count = omega (arith, at .inv .0, c .loop-test .left) in
     record {
-      fit = decided-yes (λ k below l before. at .inv .1 l (omega arith) k below before);
+      fits = decided-yes (λ k below l before. at .inv .1 l (omega arith) k below before);
       is = λ _. filled-whole (filled-past (at .inv .2) (omega (arith, s .pre .few))
           (λ i from to. entry-below count (now (s .args .matrix)) i (omega arith)));
     }
