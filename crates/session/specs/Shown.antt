@@ -1,20 +1,16 @@
 -- What is shown of a session's figures: arrays of the largest size that have each part's number, the matrix in both halves, and zeros
 -- behind the parts.
-use Prim.Native.Nat.{ℕ, _*_, _+_, _/_, _%_, _≤_, _<_}
+use Prim.Native.Nat.{ℕ, _/_, _%_, _≤_, _<_}
 use mathlib.Core.Path.{_≡_, sym, ap, _∙_}
-use mathlib.Core.Bool.{Bool, true}
 use mathlib.Core.List.{List, []}
 use native.Mathlib.Decide.{decLt}
 use native.Mathlib.Omega.{arith}
-use lib.IntN.{ℤ, pos, natAbs}
-use lib.ListN.{getD, replicate, List·getD-eq-default}
+use lib.IntN.{ℤ, pos}
+use lib.ListN.{getD, List·getD-eq-default}
 use lib.Seq.{ext-getD}
 use Rattle.definitions.specs.Words.{tabFrom, part}
 use Rattle.laws.specs.Judged.{tab-at, tabFrom-length}
-use Rattle.chain.specs.Arrays.{cell, cell-at, cell-mirrored}
-use Rattle.chain.specs.Decides.{Decides}
-use Rattle.chain.specs.Fitting.{entryLimit}
-use Rattle.chain.specs.Residues.{RowsFit}
+use Rattle.chain.specs.Arrays.{cell}
 use Rattle.figures.specs.Filled.{Filled}
 
 pub record OfParts (count : ℕ) : Type 0 where
@@ -31,32 +27,6 @@ entryShown count A c = part (getD (tabFrom 0 count (λ k. tabFrom 0 count (cell 
 
 abbrev pub matrixShown : ℕ → List ℤ → List ℤ
 matrixShown count A = tabFrom 0 961 (entryShown count A)
-
--- ---- the matrix row by row
-
--- the entries below the diagonal in column k, which row k has behind it
-abbrev pub ColumnFits : List ℤ → ℕ → ℕ → Type 0
-ColumnFits A k count = (i : ℕ) → i < count → k < i → natAbs (cell A i k) ≤ entryLimit
-
-abbrev pub ShownTo : ℕ → List ℤ → ℕ → List ℤ → Type 0
-ShownTo count A c v = Filled 961 c (pos 0) (entryShown count A) v
-
-pub record OfRow (count : ℕ) (A v : List ℤ) (k : ℕ) : Type 0 where
-  pub few : count ≤ 31
-  pub below : k < count
-  pub shown : ShownTo count A (31 * k) v
-
-pub record RowShown (count : ℕ) (A : List ℤ) (k : ℕ) (r : Bool) (v : List ℤ) : Type 0 where
-  pub fits : Decides (ColumnFits A k count) r
-  pub shown : r ≡ true → ShownTo count A (31 * (k + 1)) v
-
-pub record OfMatrix (count : ℕ) (v : List ℤ) : Type 0 where
-  pub few : count ≤ 31
-  pub empty : v ≡ replicate 961 (pos 0)
-
-pub record MatrixShown (count : ℕ) (A : List ℤ) (r : Bool) (v : List ℤ) : Type 0 where
-  pub fits : Decides (RowsFit A count) r
-  pub is : r ≡ true → v ≡ matrixShown count A
 
 -- ---- behind the end of a table
 
@@ -77,25 +47,6 @@ module _ {A : Type 0} (n : ℕ) (f : ℕ → A) where
       at : (k : ℕ) → k < size → getD v k empty ≡ getD (tabFrom 0 size (λ i. getD (tabFrom 0 n f) i empty)) k empty
       at k below = by-place k (decLt k n) ∙ sym (tab-at size (λ i. getD (tabFrom 0 n f) i empty) k empty below)
 
--- an array that is filled whole
-pub filled-whole : {A : Type 0} {size : ℕ} {empty : A} {f : ℕ → A} {v : List A} → Filled size size empty f v → v ≡ tabFrom 0 size f
-filled-whole {size = size} {empty = empty} {f = f} {v = v} h =
-    ext-getD empty v _ (h .long ∙ sym (tabFrom-length 0 size f))
-    (λ k below. h .front k (omega (arith, h .long)) ∙ sym (tab-at size f k empty (omega (arith, h .long))))
-
--- places that stay empty are passed
-pub filled-past : {A : Type 0} {size k n : ℕ} {empty : A} {f : ℕ → A} {v : List A} → Filled size k empty f v
-    → k ≤ n → ((i : ℕ) → k ≤ i → i < n → f i ≡ empty) → Filled size n empty f v
-filled-past {k = k} {n = n} {empty = empty} {f = f} {v = v} h on none = record {
-  long = h .long;
-  front = λ i below. by-place i below (decLt i k);
-  rest = λ i from. h .rest i (omega arith);
-}
-  where
-    by-place : (i : ℕ) → i < n → Dec (i < k) → getD v i empty ≡ f i
-    by-place i below (yes passed) = h .front i passed
-    by-place i below (no left) = h .rest i (omega arith) ∙ sym (none i (omega arith) below)
-
 -- ---- an entry of the matrix
 
 module _ (count : ℕ) (A : List ℤ) (c : ℕ) where
@@ -112,12 +63,5 @@ module _ (count : ℕ) (A : List ℤ) (c : ℕ) where
     entry-behind h = entry-row ∙ behind count _ (c % 31) (pos 0) h
 
     module _ (column : c % 31 < count) where
-      entry-is : entryShown count A c ≡ cell A (c / 31) (c % 31)
+      pub entry-is : entryShown count A c ≡ cell A (c / 31) (c % 31)
       entry-is = entry-row ∙ tab-at count (cell A (c / 31)) (c % 31) (pos 0) column
-
-      pub entry-held : c % 31 ≤ c / 31 → entryShown count A c ≡ part A (31 * (c / 31) + c % 31)
-      entry-held h = entry-is ∙ cell-at A (c / 31) (c % 31) h
-
-      -- above the diagonal
-      pub entry-mirrored : c / 31 ≤ c % 31 → entryShown count A c ≡ part A (31 * (c % 31) + c / 31)
-      entry-mirrored h = entry-is ∙ cell-mirrored A (c / 31) (c % 31) ∙ cell-at A (c % 31) (c / 31) h

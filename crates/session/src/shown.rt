@@ -1,11 +1,10 @@
 // What is shown of an open file's figures. A session counts the entries on and below the diagonal alone, and nothing behind the
 // parts 0..2J, `count` of them: what is shown has both halves of the matrix, and zeros behind the parts.
 ghost use mathlib.Core.Path.{_≡_};
-ghost use Rattle.definitions.specs.Machine.{State};
-ghost use Rattle.session.specs.Calls.{noFigures, showsTo};
-ghost use Rattle.session.specs.Shown.{OfParts, OfRow, OfMatrix, ownShown, rightHandShown, RowShown, MatrixShown};
+ghost use Rattle.session.specs.Calls.{noFigures};
+ghost use Rattle.session.specs.ShowCall.{OfRow, OfMatrix, RowShown, MatrixShown, answerShown, closenessShown};
+ghost use Rattle.session.specs.Shown.{OfParts, ownShown, rightHandShown};
 use crate::answers::FiguresAnswer;
-use crate::answers::Showing;
 use chain::arrays::Figures;
 use chain::residues::entry_fits;
 
@@ -22,15 +21,22 @@ pub fn no_figures() -> Figures
     }
 }
 
-// What is shown where nothing is open.
-pub fn nothing_shown() -> Showing
-    ensures { λ r. ⌜ r ≡ showsTo State.empty ⌝ }
+pub fn answer_shown(count: usize) -> FiguresAnswer
+    ensures { λ r. ⌜ r ≡ answerShown count ⌝ }
 {
-    let nothing = no_figures();
-    Showing {
-        answer: FiguresAnswer::Refused(21, 0),
-        figures: nothing,
+    if count < 1 {
+        return FiguresAnswer::Refused(21, 0);
     }
+    FiguresAnswer::Shown
+}
+
+pub fn closeness_shown(count: usize, closeness: u64) -> u64
+    ensures { λ r. ⌜ r ≡ closenessShown count closeness ⌝ }
+{
+    if count < 1 {
+        return 0;
+    }
+    closeness
 }
 
 pub fn own_shown(count: usize, own: &[u64; 31]) -> [u64; 31]
@@ -61,40 +67,40 @@ pub fn right_hand_shown(count: usize, right_hand: &[i64; 31]) -> [i64; 31]
     shown
 }
 
-// Row k: up to the diagonal as it stands, behind it the entries of column k, each tested where it is read. Tells whether they fit.
-fn row_shown(count: usize, matrix: &[i64; 961], shown: &mut [i64; 961], k: usize) -> bool
-    requires { ⌜ OfRow count (now matrix) (now shown) k ⌝ }
-    ensures { λ r. ⌜ RowShown count (now (matrix .entry)) k r (now (shown .exit)) ⌝ }
+// Row k up to its diagonal, each entry also where it is mirrored. An entry off the diagonal is tested where it is read.
+fn row_shown(matrix: &[i64; 961], shown: &mut [i64; 961], k: usize) -> bool
+    requires { ⌜ OfRow (now matrix) (now shown) k ⌝ }
+    ensures { λ r. ⌜ RowShown (now (matrix .entry)) k r (now (shown .exit)) ⌝ }
 {
     let row = 31 * k;
     let mut l = 0usize;
-    while l <= k {
+    while l < k {
         let entry = matrix[row + l];
-        shown[row + l] = entry;
-        l += 1;
-    }
-    while l < count {
-        let entry = matrix[31 * l + k];
         if !entry_fits(entry) {
             return false;
         }
         shown[row + l] = entry;
+        shown[31 * l + k] = entry;
         l += 1;
     }
+    let diagonal = matrix[row + k];
+    shown[row + k] = diagonal;
     true
 }
 
-// One pass tests the matrix and shows it, in an array of zeros.
-pub fn matrix_shown(count: usize, matrix: &[i64; 961], shown: &mut [i64; 961]) -> bool
+// The matrix of so many parts, in an array of zeros: one pass tests it and shows it. Where a row does not fit none is shown.
+pub fn matrix_shown(count: usize, matrix: &[i64; 961], shown: &mut [i64; 961]) -> usize
     requires { ⌜ OfMatrix count (now shown) ⌝ }
     ensures { λ r. ⌜ MatrixShown count (now (matrix .entry)) r (now (shown .exit)) ⌝ }
 {
     let mut k = 0usize;
     while k < count {
-        if !row_shown(count, matrix, shown, k) {
-            return false;
+        if !row_shown(matrix, shown, k) {
+            let nothing = [0i64; 961];
+            *shown = nothing;
+            return 0;
         }
         k += 1;
     }
-    true
+    count
 }

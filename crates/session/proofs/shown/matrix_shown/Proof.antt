@@ -1,39 +1,38 @@
--- `shown::matrix_shown` meets its contract. The loop's invariant: the rows passed are shown and their columns fit.
+-- `shown::matrix_shown` meets its contract. The loop's invariant: the rows so far fit, and are put in both halves.
 use Prim.Native.Nat.{ℕ, _*_, _-_, _≤_, _<_}
-use mathlib.Core.Path.{_≡_, sym, subst}
-use mathlib.Core.Bool.{false≢true}
+use mathlib.Core.Path.{_≡_, refl, sym, subst, _∙_}
 use native.Mathlib.Omega.{arith}
 use denote.Ref.{now}
-use lib.IntN.{pos}
-use Rattle.chain.specs.Decides.{decided-yes, decided-no, not-yes, not-no}
+use Rattle.chain.specs.Decides.{not-yes, not-no}
+use Rattle.chain.specs.Residues.{RowFits, RowsFit}
 use Rattle.chain.specs.Turned.{here-or-before}
-use Rattle.figures.specs.Filled.{filled-none}
-use Rattle.session.specs.Shown.{ColumnFits, ShownTo, entry-below, filled-past, filled-whole}
+use Rattle.session.specs.Mirrored.{Mirrored, mirrored-none, mirrored-is}
 use Rattle.session.proofs.shown.matrix_shown.Statement.{statement}
 use Rattle.session.proofs.shown.matrix_shown.Tie as tie
 
 abbrev Inv-loop : tie.InvT-loop
-Inv-loop count matrix shown₀ k₀ shown k =
-    (k ≤ count) × ((l : ℕ) → l < k → ColumnFits matrix l count) × ShownTo count matrix (31 * k) shown
+Inv-loop count matrix shown₀ k₀ shown k = (k ≤ count) × RowsFit matrix k × Mirrored matrix (31 * k) shown
 
 abbrev μ-loop : tie.MeasureT-loop
 μ-loop count matrix shown₀ k₀ shown k = count - k
 
 loop-holds : tie.Need-loop-holds Inv-loop μ-loop
-loop-holds c = (omega arith, λ l none. absurd (omega arith), subst (ShownTo _ _ 0) (sym (c .pre .empty)) (filled-none 961 (pos 0) _))
+loop-holds c = (omega arith, λ l none. absurd (omega arith), subst (Mirrored _ 0) (sym (c .pre .empty)) (mirrored-none _))
 
 row-shown-requires : tie.Need-row-shown-requires Inv-loop μ-loop
 row-shown-requires c κs =
     let at = c .before .before in
-    record { few = at .before .pre .few; below = c .before .loop-test .taken; shown = at .loop .inv .2 }
+    record { few = omega (arith, c .before .loop-test .taken, at .before .pre .few); before = at .loop .inv .2 }
 
 returns : tie.Need-returns Inv-loop μ-loop
 returns c =
     let l = c .before .before .before in
-    let row = c .before .row-shown .ensures .fits in
+    let row = c .before .row-shown .ensures .fits .when-no (not-yes (c .if1 .taken)) in
     record {
-      fits = decided-no (λ rows. row .when-no (not-yes (c .if1 .taken)) (λ i below above. rows i below (l .before .loop .k) above));
-      is = λ e. absurd (false≢true e);
+      few = omega arith;
+      all = λ rows. absurd (row (rows (l .before .loop .k) (l .loop-test .taken)));
+      none = λ _. refl;
+      is = mirrored-is 0 (mirrored-none (now (l .before .before .args .matrix)));
     }
 
 -- a row that is shown
@@ -54,31 +53,21 @@ loop-again : tie.Need-loop-again Inv-loop μ-loop
 loop-again c =
     let row = c .before .row-shown .ensures in
     let fits = not-no (c .if1 .left) in
-    let Fits : ℕ → Type 0 = λ l. ColumnFits (now (at c .before .args .matrix)) l (at c .before .args .count) in
-    (omega (arith, below c), here-or-before Fits (at c .loop .k) (row .fits .when-yes fits) (at c .loop .inv .1), row .shown fits)
+    let A = now (at c .before .args .matrix) in
+    (omega (arith, below c), here-or-before (RowFits A) (at c .loop .k) (row .fits .when-yes fits) (at c .loop .inv .1), row .is fits)
 
 returns-2 : tie.Need-returns-2 Inv-loop μ-loop
 returns-2 c =
     let at = c .before .loop in
     let s = c .before .before in
-    let count = s .args .count in
-    let all : at .k ≡ count = omega (arith, at .inv .0, c .loop-test .left) in
+    let all : at .k ≡ s .args .count = omega (arith, at .inv .0, c .loop-test .left) in
     record {
-      fits = decided-yes (λ k below l before. at .inv .1 l (omega arith) k below before);
-      is = λ _. filled-whole (filled-past (at .inv .2) (omega (arith, s .pre .few))
-          (λ i from to. entry-below count (now (s .args .matrix)) i (omega arith)));
+      few = s .pre .few;
+      all = λ _. refl;
+      none = λ some. absurd (some (subst (RowsFit (now (s .args .matrix))) all (at .inv .1)));
+      is = mirrored-is (s .args .count) (subst (λ k. Mirrored (now (s .args .matrix)) (31 * k) (at .shown)) all (at .inv .2));
     }
 
 pub matrix-shown-spec : {M : Type 1} → statement M
-matrix-shown-spec =
-    tie.close
-    (tie.spec
-    Inv-loop
-    μ-loop
-    loop-holds
-    row-shown-requires
-    returns
-    add-k
-    loop-less
-    loop-again
-    returns-2)
+matrix-shown-spec = tie.close (tie.spec
+    Inv-loop μ-loop loop-holds row-shown-requires returns add-k loop-less loop-again returns-2)

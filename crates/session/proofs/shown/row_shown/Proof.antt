@@ -1,197 +1,151 @@
--- `shown::row_shown` meets its contract. The loops' invariant: the entries up to the column are those that are shown, and in the second
--- those of column k that are passed fit.
+-- `shown::row_shown` meets its contract. The loop's invariant: the entries of the row so far fit, and are put in both halves.
 use Prim.Native.Nat.{ℕ, _+_, _*_, _-_, _≤_, _<_}
-use mathlib.Core.Path.{_≡_, sym, ap, subst, _∙_}
+use mathlib.Core.Path.{_≡_, sym, subst, _∙_}
 use mathlib.Core.Bool.{false≢true}
 use mathlib.Core.List.{List}
 use native.Mathlib.Omega.{arith}
 use borrow.Author.Needs.{needs}
 use denote.Ref.{now}
 use lib.IntN.{ℤ, natAbs}
-use Rattle.definitions.specs.Words.{part}
 use Rattle.chain.specs.Arrays.{cell, cell-at}
 use Rattle.chain.specs.Bits.{same}
 use Rattle.chain.specs.Decides.{Decides, decided-yes, decided-no, not-yes, not-no}
 use Rattle.chain.specs.Fitting.{entryLimit}
 use Rattle.chain.specs.Turned.{here-or-before}
-use Rattle.figures.specs.Filled.{filled-next, filled-to}
-use Rattle.session.specs.Shown.{entryShown, ColumnFits, ShownTo, entry-behind, entry-held, entry-mirrored, filled-past}
+use Rattle.session.specs.Mirrored.{Mirrored, mirrored-next, mirrored-row}
 use Rattle.session.proofs.shown.row_shown.Statement.{statement}
 use Rattle.session.proofs.shown.row_shown.Tie as tie
 
--- row k, column l
-module _ {count k l : ℕ} (A : List ℤ) (few : count ≤ 31) (row : k < count) (column : l < count) where
-  held : l ≤ k → part A (31 * k + l) ≡ entryShown count A (31 * k + l)
-  held h = sym (entry-held count A (31 * k + l) (omega arith) (omega arith) (omega arith) ∙ ap (part A) (omega arith))
-
-  mirrored : k ≤ l → part A (31 * l + k) ≡ entryShown count A (31 * k + l)
-  mirrored h = sym (entry-mirrored count A (31 * k + l) (omega arith) (omega arith) (omega arith) ∙ ap (part A) (omega arith))
+abbrev FitsAt : List ℤ → ℕ → ℕ → Type 0
+FitsAt A k l = natAbs (cell A k l) ≤ entryLimit
 
 abbrev Inv-loop : tie.InvT-loop
-Inv-loop count matrix shown₀ k row l₀ shown l = (l ≤ k + 1) × ShownTo count matrix (row + l) shown
+Inv-loop matrix shown₀ k row l₀ shown l = (l ≤ k) × ((i : ℕ) → i < l → FitsAt matrix k i) × Mirrored matrix (row + l) shown
 
 abbrev μ-loop : tie.MeasureT-loop
-μ-loop count matrix shown₀ k row l₀ shown l = k + 1 - l
+μ-loop matrix shown₀ k row l₀ shown l = k - l
 
-abbrev Inv-loop2 : tie.InvT-loop2
-Inv-loop2 count matrix shown₀ k row l₀ shown l = (k < l) × (l ≤ count) × ColumnFits matrix k l × ShownTo count matrix (row + l) shown
+mul-row : tie.Need-mul-row Inv-loop μ-loop
+mul-row c = omega (arith, c .pre .few)
 
-abbrev μ-loop2 : tie.MeasureT-loop2
-μ-loop2 count matrix shown₀ k row l₀ shown l = count - l
+loop-holds : tie.Need-loop-holds Inv-loop μ-loop
+loop-holds c =
+    (omega arith, λ i none. absurd (omega arith), subst (λ n. Mirrored (now (c .args .matrix)) n (now (c .args .shown))) (omega arith) (c .pre .before))
 
-mul-row : tie.Need-mul-row Inv-loop μ-loop Inv-loop2 μ-loop2
-mul-row c = omega (arith, c .pre .few, c .pre .below)
-
-loop-holds : tie.Need-loop-holds Inv-loop μ-loop Inv-loop2 μ-loop2
-loop-holds c = (omega arith, filled-to (omega arith) (c .pre .shown))
-
--- ---- up to the diagonal
-
-module _ (c : tie.In-loop Inv-loop μ-loop Inv-loop2 μ-loop2) where
-  up-to : c .before .loop .l ≤ c .before .before .args .k
-  up-to = omega (arith, c .loop-test .taken)
-
-  place : 31 * c .before .before .args .k + c .before .loop .l < 961
-  place = omega (arith, up-to, c .before .before .pre .few, c .before .before .pre .below)
-
-add-entry : tie.Need-add-entry Inv-loop μ-loop Inv-loop2 μ-loop2
-add-entry c = omega (arith, place c)
-
-mul-entry : tie.Need-mul-entry Inv-loop μ-loop Inv-loop2 μ-loop2
-mul-entry c = omega (arith, place c)
-
-element-copy-out-entry : tie.Need-element-copy-out-entry Inv-loop μ-loop Inv-loop2 μ-loop2
-element-copy-out-entry c = place c
-
-add-entry-2 : tie.Need-add-entry-2 Inv-loop μ-loop Inv-loop2 μ-loop2
-add-entry-2 c = omega (arith, place (c .before))
-
-mul-entry-2 : tie.Need-mul-entry-2 Inv-loop μ-loop Inv-loop2 μ-loop2
-mul-entry-2 c = omega (arith, place (c .before))
-
-element-set-from-entry : tie.Need-element-set-from-entry Inv-loop μ-loop Inv-loop2 μ-loop2
-element-set-from-entry c = place (c .before)
-
-add-l : tie.Need-add-l Inv-loop μ-loop Inv-loop2 μ-loop2
-add-l c = omega (arith, place (c .before))
-
-loop-less : tie.Need-loop-less Inv-loop μ-loop Inv-loop2 μ-loop2
-loop-less c = omega (arith, up-to (c .before))
-
-loop-again : tie.Need-loop-again Inv-loop μ-loop Inv-loop2 μ-loop2
-loop-again c =
-    let at = c .before .before in
-    let asked = at .before .pre in
-    let A = now (at .before .args .matrix) in
-    let h = up-to (c .before) in
-    let is = same _ (c .entry .given) ∙ held A (asked .few) (asked .below) (omega (arith, h, asked .below)) h in
-    (omega (arith, h), filled-to (omega arith) (filled-next (at .loop .inv .1) (place (c .before)) is))
-
-loop2-holds : tie.Need-loop2-holds Inv-loop μ-loop Inv-loop2 μ-loop2
-loop2-holds c =
-    let at = c .before .loop in
-    let past = c .loop-test .left in
-    (omega (arith, past), omega (arith, at .inv .0, c .before .before .pre .below), λ i i-below above. absurd (omega (arith, at .inv .0)), at .inv .1)
-
--- ---- behind the diagonal
-
-module _ (c : tie.In-loop2 Inv-loop μ-loop Inv-loop2 μ-loop2) where
-  abbrev at : tie.At-loop2 Inv-loop μ-loop Inv-loop2 μ-loop2
+module _ (c : tie.In-loop Inv-loop μ-loop) where
+  abbrev at : tie.At-loop Inv-loop μ-loop
   at = c .before
 
-  abbrev s : tie.Start Inv-loop μ-loop Inv-loop2 μ-loop2
-  s = at .before .before .before
-
-  abbrev l : ℕ
-  l = at .loop2 .l
+  abbrev s : tie.Start Inv-loop μ-loop
+  s = at .before
 
   abbrev A : List ℤ
   A = now (s .args .matrix)
 
-  abbrev FitsAt : ℕ → Type 0
-  FitsAt i = s .args .k < i → natAbs (cell A i (s .args .k)) ≤ entryLimit
+  before : at .loop .l < s .args .k
+  before = c .loop-test .taken
 
-  inside : l < s .args .count
-  inside = c .loop2-test .taken
+  read-at : 31 * s .args .k + at .loop .l < 961
+  read-at = omega (arith, before, s .pre .few)
 
-  read-at : 31 * l + s .args .k < 961
-  read-at = omega (arith, inside, s .pre .few, s .pre .below)
+  mirror-at : 31 * at .loop .l + s .args .k < 961
+  mirror-at = omega (arith, before, s .pre .few)
 
-  put-at : 31 * s .args .k + l < 961
-  put-at = omega (arith, inside, s .pre .few, s .pre .below)
+add-entry : tie.Need-add-entry Inv-loop μ-loop
+add-entry c = omega (arith, read-at c)
 
-mul-entry-3 : tie.Need-mul-entry-3 Inv-loop μ-loop Inv-loop2 μ-loop2
-mul-entry-3 c = omega (arith, read-at c)
+mul-entry : tie.Need-mul-entry Inv-loop μ-loop
+mul-entry c = omega (arith, read-at c)
 
-add-entry-3 : tie.Need-add-entry-3 Inv-loop μ-loop Inv-loop2 μ-loop2
-add-entry-3 c = omega (arith, read-at c)
+element-copy-out-entry : tie.Need-element-copy-out-entry Inv-loop μ-loop
+element-copy-out-entry c = read-at c
 
-mul-entry-4 : tie.Need-mul-entry-4 Inv-loop μ-loop Inv-loop2 μ-loop2
-mul-entry-4 c = omega (arith, read-at c)
-
-element-copy-out-entry-2 : tie.Need-element-copy-out-entry-2 Inv-loop μ-loop Inv-loop2 μ-loop2
-element-copy-out-entry-2 c = read-at c
-
-entry-fits-requires : tie.Need-entry-fits-requires Inv-loop μ-loop Inv-loop2 μ-loop2
+entry-fits-requires : tie.Need-entry-fits-requires Inv-loop μ-loop
 entry-fits-requires c κs = search needs
 
 -- whether the entry fits
-decided : (c : tie.After-entry-fits Inv-loop μ-loop Inv-loop2 μ-loop2)
-    → let i = c .before .before in
-    Decides (natAbs (cell (A i) (l i) (s i .args .k)) ≤ entryLimit) (c .entry-fits .result)
+decided : (c : tie.After-entry-fits Inv-loop μ-loop)
+    → let i = c .before .before in Decides (FitsAt (A i) (s i .args .k) (at i .loop .l)) (c .entry-fits .result)
 decided c =
     let i = c .before .before in
     subst (λ z. Decides (natAbs z ≤ entryLimit) (c .entry-fits .result))
-    (same _ (c .before .entry2 .given) ∙ sym (cell-at (A i) (l i) (s i .args .k) (omega (arith, at i .loop2 .inv .0))))
+    (same _ (c .before .entry .given) ∙ sym (cell-at (A i) (s i .args .k) (at i .loop .l) (omega (arith, before i))))
     (c .entry-fits .ensures)
 
-returns : tie.Need-returns Inv-loop μ-loop Inv-loop2 μ-loop2
+returns : tie.Need-returns Inv-loop μ-loop
 returns c =
     let i = c .before .before .before in
     let too-large = decided (c .before) .when-no (not-yes (c .if1 .taken)) in
-    record {
-      fits = decided-no (λ all. too-large (all (l i) (inside i) (at i .loop2 .inv .0)));
-      shown = λ e. absurd (false≢true e);
-    }
+    record { fits = decided-no (λ all. too-large (all (at i .loop .l) (before i))); is = λ e. absurd (false≢true e) }
 
-add-entry-4 : tie.Need-add-entry-4 Inv-loop μ-loop Inv-loop2 μ-loop2
-add-entry-4 c = omega (arith, put-at (c .before .before .before))
+add-entry-2 : tie.Need-add-entry-2 Inv-loop μ-loop
+add-entry-2 c = omega (arith, read-at (c .before .before .before))
 
-mul-entry-5 : tie.Need-mul-entry-5 Inv-loop μ-loop Inv-loop2 μ-loop2
-mul-entry-5 c = omega (arith, put-at (c .before .before .before))
+mul-entry-2 : tie.Need-mul-entry-2 Inv-loop μ-loop
+mul-entry-2 c = omega (arith, read-at (c .before .before .before))
 
-element-set-from-entry-2 : tie.Need-element-set-from-entry-2 Inv-loop μ-loop Inv-loop2 μ-loop2
-element-set-from-entry-2 c = put-at (c .before .before .before)
+element-set-from-entry : tie.Need-element-set-from-entry Inv-loop μ-loop
+element-set-from-entry c = read-at (c .before .before .before)
 
-add-l-2 : tie.Need-add-l-2 Inv-loop μ-loop Inv-loop2 μ-loop2
-add-l-2 c = omega (arith, put-at (c .before .before .before))
+mul-entry-3 : tie.Need-mul-entry-3 Inv-loop μ-loop
+mul-entry-3 c = omega (arith, mirror-at (c .before .before .before))
 
-loop2-less : tie.Need-loop2-less Inv-loop μ-loop Inv-loop2 μ-loop2
-loop2-less c = omega (arith, inside (c .before .before .before))
+add-entry-3 : tie.Need-add-entry-3 Inv-loop μ-loop
+add-entry-3 c = omega (arith, mirror-at (c .before .before .before))
 
-loop2-again : tie.Need-loop2-again Inv-loop μ-loop Inv-loop2 μ-loop2
-loop2-again c =
+mul-entry-4 : tie.Need-mul-entry-4 Inv-loop μ-loop
+mul-entry-4 c = omega (arith, mirror-at (c .before .before .before))
+
+element-set-from-entry-2 : tie.Need-element-set-from-entry-2 Inv-loop μ-loop
+element-set-from-entry-2 c = mirror-at (c .before .before .before)
+
+add-l : tie.Need-add-l Inv-loop μ-loop
+add-l c = omega (arith, read-at (c .before .before .before))
+
+loop-less : tie.Need-loop-less Inv-loop μ-loop
+loop-less c = omega (arith, before (c .before .before .before))
+
+loop-again : tie.Need-loop-again Inv-loop μ-loop
+loop-again c =
     let i = c .before .before .before in
-    let inv = at i .loop2 .inv in
-    let here = decided (c .before) .when-yes (not-no (c .if1 .left)) in
-    let is = same _ (c .before .before .entry2 .given)
-    ∙ mirrored (A i) (s i .pre .few) (s i .pre .below) (inside i) (omega (arith, inv .0)) in (
-      omega (arith, inv .0),
-      omega (arith, inside i),
-      here-or-before (FitsAt i) (l i) (λ _. here) (inv .2),
-      filled-to (omega arith) (filled-next (inv .3) (put-at i) is),
+    let inv = at i .loop .inv in
+    let here = decided (c .before) .when-yes (not-no (c .if1 .left)) in (
+      omega (arith, before i),
+      here-or-before (FitsAt (A i) (s i .args .k)) (at i .loop .l) here (inv .1),
+      mirrored-next (s i .pre .few) (before i) (inv .2) (same _ (c .before .before .entry .given)),
     )
 
-returns-2 : tie.Need-returns-2 Inv-loop μ-loop Inv-loop2 μ-loop2
+-- the diagonal
+place : (c : tie.After-loop Inv-loop μ-loop) → let k = c .before .before .args .k in 31 * k + k < 961
+place c = omega (arith, c .before .before .pre .few)
+
+add-diagonal : tie.Need-add-diagonal Inv-loop μ-loop
+add-diagonal c = omega (arith, place c)
+
+mul-diagonal : tie.Need-mul-diagonal Inv-loop μ-loop
+mul-diagonal c = omega (arith, place c)
+
+element-copy-out-diagonal : tie.Need-element-copy-out-diagonal Inv-loop μ-loop
+element-copy-out-diagonal c = place c
+
+add-diagonal-2 : tie.Need-add-diagonal-2 Inv-loop μ-loop
+add-diagonal-2 c = omega (arith, place (c .before))
+
+mul-diagonal-2 : tie.Need-mul-diagonal-2 Inv-loop μ-loop
+mul-diagonal-2 c = omega (arith, place (c .before))
+
+element-set-from-diagonal : tie.Need-element-set-from-diagonal Inv-loop μ-loop
+element-set-from-diagonal c = place (c .before)
+
+returns-2 : tie.Need-returns-2 Inv-loop μ-loop
 returns-2 c =
-    let at = c .before .loop2 in
-    let s = c .before .before .before .before in
-    let count = s .args .count in
-    let all : at .l ≡ count = omega (arith, at .inv .1, c .loop2-test .left) in
+    let at = c .before .before .loop in
+    let s = c .before .before .before in
+    let all : at .l ≡ s .args .k = omega (arith, at .inv .0, c .before .loop-test .left) in
+    let row = subst (λ l. Mirrored (now (s .args .matrix)) (31 * s .args .k + l) (at .shown)) all (at .inv .2) in
     record {
-      fits = decided-yes (λ i below. at .inv .2 i (omega arith));
-      shown = λ _. filled-past (at .inv .3) (omega (arith, s .pre .few))
-          (λ i from to. entry-behind count (now (s .args .matrix)) i (omega (arith, s .pre .below)) (omega arith));
+      fits = decided-yes (λ i below. at .inv .1 i (omega arith));
+      is = λ _. mirrored-row (s .pre .few) row (same _ (c .diagonal .given));
     }
 
 pub row-shown-spec : {M : Type 1} → statement M
@@ -200,30 +154,27 @@ row-shown-spec =
     (tie.spec
     Inv-loop
     μ-loop
-    Inv-loop2
-    μ-loop2
     mul-row
     loop-holds
     add-entry
     mul-entry
     element-copy-out-entry
+    entry-fits-requires
+    returns
     add-entry-2
     mul-entry-2
     element-set-from-entry
-    add-l
-    loop-less
-    loop-again
-    loop2-holds
     mul-entry-3
     add-entry-3
     mul-entry-4
-    element-copy-out-entry-2
-    entry-fits-requires
-    returns
-    add-entry-4
-    mul-entry-5
     element-set-from-entry-2
-    add-l-2
-    loop2-less
-    loop2-again
+    add-l
+    loop-less
+    loop-again
+    add-diagonal
+    mul-diagonal
+    element-copy-out-diagonal
+    add-diagonal-2
+    mul-diagonal-2
+    element-set-from-diagonal
     returns-2)
