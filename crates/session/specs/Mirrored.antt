@@ -1,5 +1,5 @@
--- A matrix that is filled in both halves. The entries on and below the diagonal are passed row by row, and each is put where it stands and where
--- it is mirrored; all else is 0 still.
+-- A matrix that is filled in both halves. The entries on and below the diagonal are passed row by row, and each is put where it stands
+-- and where it is mirrored; all else is 0 still.
 use Prim.Native.Nat.{ℕ, _+_, _*_, _/_, _%_, _≤_, _<_, min, max}
 use mathlib.Core.Path.{_≡_, sym, ap, _∙_}
 use mathlib.Core.List.{List}
@@ -108,7 +108,8 @@ mirrored-is {A} {v} k h = ext-getD (pos 0) v _ (h .long ∙ sym (tabFrom-length 
     (λ c below. at c (omega (arith, h .long)))
   where
     by-place : (c : ℕ) → c < 961 → Dec (c / 31 < k) → Dec (c % 31 < k) → part v (31 * (c / 31) + c % 31) ≡ entryShown k A c
-    by-place c room (no under) column = h .rest (c / 31) (c % 31) (omega arith) (omega arith) (omega arith) ∙ sym (entry-below k A c (omega arith))
+    by-place c room (no under) column =
+        h .rest (c / 31) (c % 31) (omega arith) (omega arith) (omega arith) ∙ sym (entry-below k A c (omega arith))
     by-place c room (yes row) (no behind) =
         h .rest (c / 31) (c % 31) (omega arith) (omega arith) (omega arith) ∙ sym (entry-behind k A c row (omega arith))
     by-place c room (yes row) (yes column) =

@@ -12,7 +12,7 @@ use Rattle.definitions.specs.Refusals.{yearLimit}
 use Rattle.definitions.specs.Observations.{chainOf}
 use Rattle.definitions.specs.Matrix as D
 use Rattle.definitions.specs.Matrix.{entry}
-use Rattle.definitions.specs.Machine.{accepted, empty}
+use Rattle.definitions.specs.Machine.{accepted}
 use Rattle.laws.specs.Accepted.{accepted-file}
 use Rattle.laws.specs.Judged.{tab-at}
 use Rattle.chain.specs.Arrays.{figuresAt, figuresOf}

@@ -1,5 +1,6 @@
 // What is shown of an open file's figures. A session counts the entries on and below the diagonal alone, and nothing behind the
-// parts 0..2J, `count` of them: what is shown has both halves of the matrix, and zeros behind the parts.
+// parts 0..2J, `count` of them: what is shown has both halves of the matrix, and zeros behind the parts. Where nothing is open
+// `count` is 0, and so is every number.
 ghost use mathlib.Core.Path.{_≡_};
 ghost use Rattle.session.specs.Calls.{noFigures};
 ghost use Rattle.session.specs.ShowCall.{OfRow, OfMatrix, RowShown, MatrixShown, answerShown, closenessShown};

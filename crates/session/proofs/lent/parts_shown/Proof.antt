@@ -1,5 +1,5 @@
 -- `lent::parts_shown` meets its contract: a session fits exactly if its frame and its rows do.
-use mathlib.Core.Path.{refl, sym, _∙_}
+use mathlib.Core.Path.{refl, _∙_}
 use native.Mathlib.Omega.{arith}
 use borrow.Author.Needs.{needs}
 use denote.Ref.{now}

@@ -1,6 +1,6 @@
 -- `shown::matrix_shown` meets its contract. The loop's invariant: the rows so far fit, and are put in both halves.
-use Prim.Native.Nat.{ℕ, _*_, _-_, _≤_, _<_}
-use mathlib.Core.Path.{_≡_, refl, sym, subst, _∙_}
+use Prim.Native.Nat.{_*_, _-_, _≤_, _<_}
+use mathlib.Core.Path.{_≡_, refl, sym, subst}
 use native.Mathlib.Omega.{arith}
 use denote.Ref.{now}
 use Rattle.chain.specs.Decides.{not-yes, not-no}

@@ -48,9 +48,6 @@ module _ (c : tie.In-loop Inv-loop μ-loop) where
   read-at : 31 * s .args .k + at .loop .l < 961
   read-at = omega (arith, before, s .pre .few)
 
-  mirror-at : 31 * at .loop .l + s .args .k < 961
-  mirror-at = omega (arith, before, s .pre .few)
-
 add-entry : tie.Need-add-entry Inv-loop μ-loop
 add-entry c = omega (arith, read-at c)
 
@@ -88,16 +85,16 @@ element-set-from-entry : tie.Need-element-set-from-entry Inv-loop μ-loop
 element-set-from-entry c = read-at (c .before .before .before)
 
 mul-entry-3 : tie.Need-mul-entry-3 Inv-loop μ-loop
-mul-entry-3 c = omega (arith, mirror-at (c .before .before .before))
+mul-entry-3 c = let i = c .before .before .before in omega (arith, before i, s i .pre .few)
 
 add-entry-3 : tie.Need-add-entry-3 Inv-loop μ-loop
-add-entry-3 c = omega (arith, mirror-at (c .before .before .before))
+add-entry-3 c = let i = c .before .before .before in omega (arith, before i, s i .pre .few)
 
 mul-entry-4 : tie.Need-mul-entry-4 Inv-loop μ-loop
-mul-entry-4 c = omega (arith, mirror-at (c .before .before .before))
+mul-entry-4 c = let i = c .before .before .before in omega (arith, before i, s i .pre .few)
 
 element-set-from-entry-2 : tie.Need-element-set-from-entry-2 Inv-loop μ-loop
-element-set-from-entry-2 c = mirror-at (c .before .before .before)
+element-set-from-entry-2 c = let i = c .before .before .before in omega (arith, before i, s i .pre .few)
 
 add-l : tie.Need-add-l Inv-loop μ-loop
 add-l c = omega (arith, read-at (c .before .before .before))
