@@ -1,4 +1,5 @@
--- The contracts of the parts of a showing. Where nothing is open no part is shown: the answer and every number of it follow from how many are.
+-- The contracts of what a showing is made by. Where nothing is open no part is shown: the answer and every number follow from how many
+-- parts are.
 use Prim.Native.Nat.{ℕ, zero, suc, _+_, _*_, _≤_, _<_}
 use mathlib.Core.Path.{_≡_, refl}
 use mathlib.Core.Bool.{Bool, true}
