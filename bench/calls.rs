@@ -6,7 +6,7 @@
 
 mod safe_desk;
 
-use safe_desk::{Judgement, Session, Sweeping, PARTS};
+use safe_desk::{Figures, Judgement, Session, Sweeping, PARTS};
 use std::hint::black_box;
 use std::process::{Command, Stdio};
 use std::time::Instant;
@@ -37,11 +37,22 @@ struct Told {
     value: u64,
 }
 
+#[repr(C)]
+struct System {
+    refusal: Refusal,
+    last: u64,
+    closeness: u64,
+    own: [u64; PARTS],
+    matrix: [i64; PARTS * PARTS],
+    right_hand: [i64; PARTS],
+}
+
 extern "C" {
     fn desk_open_lent(held: &mut [u64; 3], own: &mut [u64; PARTS], matrix: &mut [i64; PARTS * PARTS], right_hand: &mut [i64; PARTS], mean: &mut [i64; PARTS], file: *const u8, length: usize) -> Refusal;
     fn desk_judge_lent(held: &[u64; 3], own: &[u64; PARTS], matrix: &[i64; PARTS * PARTS], right_hand: &[i64; PARTS], mean: &[i64; PARTS], record: *const u8, length: usize) -> Told;
     fn desk_sweep_lent(held: &mut [u64; 3], own: &[u64; PARTS], matrix: &[i64; PARTS * PARTS], right_hand: &[i64; PARTS], mean: &mut [i64; PARTS], n: u64) -> Told;
     fn desk_read_lent(held: &[u64; 3], own: &[u64; PARTS], matrix: &[i64; PARTS * PARTS], right_hand: &[i64; PARTS], mean: &[i64; PARTS], buffer: *mut u8, length: usize) -> Refusal;
+    fn desk_figures_lent(held: &[u64; 3], own: &[u64; PARTS], matrix: &[i64; PARTS * PARTS], right_hand: &[i64; PARTS], mean: &[i64; PARTS]) -> System;
     fn desk_close_lent(held: &mut [u64; 3]);
 }
 
@@ -71,13 +82,17 @@ impl Held {
         // SAFETY: as above; the buffer is a slice apart.
         unsafe { desk_read_lent(&self.held, &self.own, &self.matrix, &self.right_hand, &self.mean, buffer.as_mut_ptr(), buffer.len()) }
     }
+    fn figures(&self) -> System {
+        // SAFETY: the arrays are five different fields.
+        unsafe { desk_figures_lent(&self.held, &self.own, &self.matrix, &self.right_hand, &self.mean) }
+    }
     fn close(&mut self) {
         // SAFETY: one array.
         unsafe { desk_close_lent(&mut self.held) }
     }
 }
 
-const CALLS: [&str; 5] = ["open", "judge", "one sweep", "sweep until settled", "read"];
+const CALLS: [&str; 6] = ["open", "judge", "one sweep", "sweep until settled", "read", "figures"];
 
 /// What is timed of either desk; an answer is asserted, not used.
 trait Desk {
@@ -86,6 +101,8 @@ trait Desk {
     fn judge_passes(&self, record: &[u8]);
     fn sweep_from(&mut self, start: &Start, n: u64) -> u64;
     fn read_into(&self, buffer: &mut [u8]);
+    fn show_figures(&self);
+    fn figures_shown(&self) -> Figures;
     fn start(&self) -> Start;
 }
 
@@ -113,6 +130,14 @@ impl Desk for Held {
     fn read_into(&self, buffer: &mut [u8]) {
         assert_eq!(self.read(buffer), DONE);
     }
+    fn show_figures(&self) {
+        assert_eq!(black_box(&self.figures()).refusal, DONE);
+    }
+    fn figures_shown(&self) -> Figures {
+        let System { refusal, last, closeness, own, matrix, right_hand } = self.figures();
+        assert_eq!(refusal, DONE);
+        Figures { last: last as usize, closeness, own, matrix, right_hand }
+    }
     fn start(&self) -> Start {
         (self.mean, self.held[2])
     }
@@ -139,6 +164,12 @@ impl Desk for Session {
     }
     fn read_into(&self, buffer: &mut [u8]) {
         assert!(self.read(buffer).is_ok());
+    }
+    fn show_figures(&self) {
+        assert!(black_box(&self.figures()).is_ok());
+    }
+    fn figures_shown(&self) -> Figures {
+        self.figures().expect("an open file")
     }
     fn start(&self) -> Start {
         self.kept()
@@ -171,6 +202,7 @@ impl<D: Desk> Ready<D> {
                 "open" => self.desk.open_anew(black_box(file)),
                 "judge" => self.desk.judge_passes(black_box(record)),
                 "read" => self.settled.read_into(black_box(&mut buffer)),
+                "figures" => black_box(&self.desk).show_figures(),
                 "one sweep" => drop(black_box(self.desk.sweep_from(&self.start, black_box(1)))),
                 _ => drop(black_box(self.desk.sweep_from(&self.start, black_box(4096)))),
             }
@@ -191,6 +223,7 @@ impl Pair {
         let file = std::fs::read(path).expect("a file of the desk");
         let (proved, plain) = (Ready::<Held>::new(&file), Ready::<Session>::new(&file));
         assert_eq!((proved.start, proved.total), (plain.start, plain.total));
+        assert_eq!(proved.desk.figures_shown(), plain.desk.figures_shown());
         let (mut record, mut other) = (vec![0; LONGEST_RECORD], vec![0; LONGEST_RECORD]);
         proved.settled.read_into(&mut record);
         plain.settled.read_into(&mut other);

@@ -26,6 +26,16 @@ pub enum Sweeping {
     Going(u64),
 }
 
+/// The figures of an open file: both halves of the matrix, row k and column l at PARTS * k + l, and zeros behind the parts.
+#[derive(Clone, Debug, PartialEq, Eq)]
+pub struct Figures {
+    pub last: usize,
+    pub closeness: u64,
+    pub own: [u64; PARTS],
+    pub matrix: [i64; PARTS * PARTS],
+    pub right_hand: [i64; PARTS],
+}
+
 fn refuse<T>(number: u64, place: usize) -> Result<T, Refusal> {
     Err(Refusal { number, place })
 }
@@ -174,14 +184,14 @@ impl Session {
         for (c, log) in logs.iter_mut().enumerate().take(2 * at.cells) {
             *log = logarithm(unsigned::<8>(file, at.amount(c)));
         }
-        self.figures(file, &at, &logs);
+        self.set_figures(file, &at, &logs);
         self.last = last;
         self.closeness = unsigned::<4>(file, 6);
         self.total = 0;
         Ok(())
     }
 
-    fn figures(&mut self, file: &[u8], at: &Layout, logs: &[i64; 272]) {
+    fn set_figures(&mut self, file: &[u8], at: &Layout, logs: &[i64; 272]) {
         let last = at.last;
         let mut shares = [0i64; 16];
         let mut ratios = [0i64; 16];
@@ -320,6 +330,24 @@ impl Session {
             buffer[5 + 4 * k..9 + 4 * k].copy_from_slice(&(self.mean[k] as i32).to_be_bytes());
         }
         Ok(length)
+    }
+
+    /// Behind the parts a session may have what an earlier file left there.
+    #[inline(never)]
+    pub fn figures(&self) -> Result<Figures, Refusal> {
+        if self.last == 0 {
+            return refuse(21, 0);
+        }
+        let parts = self.parts();
+        let mut shown =
+            Figures { last: self.last, closeness: self.closeness, own: [0; PARTS], matrix: [0; PARTS * PARTS], right_hand: [0; PARTS] };
+        shown.own[..parts].copy_from_slice(&self.own[..parts]);
+        shown.right_hand[..parts].copy_from_slice(&self.right_hand[..parts]);
+        for k in 0..parts {
+            let row = PARTS * k..PARTS * k + parts;
+            shown.matrix[row.clone()].copy_from_slice(&self.matrix[row]);
+        }
+        Ok(shown)
     }
 
     pub fn last(&self) -> usize {

@@ -21,7 +21,7 @@ pub struct TestedResidues {
 }
 
 // An entry off the diagonal, by its two sides: the compiler makes one test of them.
-fn entry_fits(entry: i64) -> bool
+pub fn entry_fits(entry: i64) -> bool
     ensures { λ r. ⌜ Decides (natAbs entry ≤ entryLimit) r ⌝ }
 {
     if entry < -ENTRY_LIMIT {

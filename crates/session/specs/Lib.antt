@@ -6,6 +6,8 @@ pub mod Fitted
 pub mod Diagonal
 pub mod Calls
 pub mod Shown
+pub mod Mirrored
+pub mod ShowCall
 pub mod Worth
 pub mod OpenLaws
 pub mod JudgeLaws

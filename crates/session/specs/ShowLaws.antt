@@ -17,21 +17,20 @@ use Rattle.laws.specs.Accepted.{accepted-file}
 use Rattle.laws.specs.Judged.{tab-at}
 use Rattle.chain.specs.Arrays.{figuresAt, figuresOf}
 use Rattle.session.specs.declared.Session.{Session}
-use Rattle.session.specs.declared.answers.FiguresAnswer.the-variants.{Shown, Refused}
+use Rattle.session.specs.declared.answers.FiguresAnswer.the-variants.{Shown}
 use Rattle.session.specs.declared.answers.Showing.{Showing}
-use Rattle.session.specs.State.{Fits, stateOf}
+use Rattle.session.specs.State.{Fits, decFits, stateOf}
 use Rattle.session.specs.StateLaws.{stateOf-held, stateOf-empty}
-use Rattle.session.specs.Calls.{inArrays, noFigures, showsTo, FiguresOf, Shows}
+use Rattle.session.specs.Calls.{inArrays, showsTo, FiguresOf, Shows}
 use Rattle.session.specs.Shown.{ownShown, rightHandShown, entryShown, matrixShown}
+use Rattle.session.specs.Mirrored.{row-of}
+use Rattle.session.specs.ShowCall.{PartsShown, answerShown, closenessShown, answer-some, closeness-some}
 
 -- row k, column l
 pub entry-at : (F : D.Figures) (k l : ℕ) → k < 31 → l < 31 → part (inArrays F .matrix) (31 * k + l) ≡ entry F k l
 entry-at F k l k-below l-below =
-    tab-at 961 (λ c. entry F (c / 31) (c % 31)) (31 * k + l) (pos 0) (omega arith) ∙ ap₂ (entry F) (row k l l-below) (column k l l-below)
+    tab-at 961 (λ c. entry F (c / 31) (c % 31)) (31 * k + l) (pos 0) (omega arith) ∙ ap₂ (entry F) (row-of k l l-below) (column k l l-below)
   where
-    row : (k l : ℕ) → l < 31 → (31 * k + l) / 31 ≡ k
-    row k l h = omega arith
-
     column : (k l : ℕ) → l < 31 → (31 * k + l) % 31 ≡ l
     column k l h = omega arith
 
@@ -68,17 +67,28 @@ module _ (s : Session) where
         subst (λ x. FiguresOf f (x .figures)) (sym is) (of-file f (accepted-file f good .years .to)),
       )
 
-  pub shows-closed : ¬ Fits s → Shows s (record { answer = Refused 21 0; figures = noFigures })
-  unfolding showsTo
+  -- what the code makes of n parts
+  abbrev pub shownOf : ℕ → Showing
+  shownOf n = record {
+    answer = answerShown n;
+    figures = figuresAt (n / 2) (closenessShown n (s .figures .closeness))
+        (ownShown n (s .figures .own)) (matrixShown n (s .figures .matrix)) (rightHandShown n (s .figures .«right_hand»));
+  }
+
+  shows-open : Fits s → Shows s (shownOf (parts (s .figures .last)))
+  unfolding showsTo figuresOf entryShown
+  shows-open h =
+      let n = parts (s .figures .last) in
+      let half : n / 2 ≡ s .figures .last = omega arith in
+      shows _ (rw (answer-some n (omega arith), closeness-some n (s .figures .closeness) (omega arith), half, stateOf-held s h) refl)
+
+  shows-closed : ¬ Fits s → Shows s (shownOf 0)
+  unfolding showsTo entryShown answerShown closenessShown tabFrom
   shows-closed h = shows _ (rw (stateOf-empty s h) refl)
 
-  -- the arrays that the code makes
-  module _ (h : Fits s) where
-    abbrev count : ℕ
-    count = parts (s .figures .last)
-
-    pub shows-open : {D : List ℕ} {A b : List ℤ} → D ≡ ownShown count (s .figures .own) → A ≡ matrixShown count (s .figures .matrix)
-        → b ≡ rightHandShown count (s .figures .«right_hand»)
-        → Shows s (record { answer = Shown; figures = figuresAt (s .figures .last) (s .figures .closeness) D A b })
-    unfolding showsTo figuresOf entryShown
-    shows-open own matrix right-hand = shows _ (rw (own, matrix, right-hand, stateOf-held s h) refl)
+  pub shows-parts : {n : ℕ} {v : List ℤ} → PartsShown s n v → Shows s (shownOf n)
+  shows-parts {n} h = by-state (decFits s)
+    where
+      by-state : Dec (Fits s) → Shows s (shownOf n)
+      by-state (yes holds) = subst (λ m. Shows s (shownOf m)) (sym (h .all holds)) (shows-open holds)
+      by-state (no nothing) = subst (λ m. Shows s (shownOf m)) (sym (h .none nothing)) (shows-closed nothing)

@@ -1,6 +1,6 @@
 -- What is shown of a session's figures: arrays of the largest size that have each part's number, the matrix in both halves, and zeros
 -- behind the parts.
-use Prim.Native.Nat.{ℕ, _*_, _+_, _/_, _%_, _≤_, _<_}
+use Prim.Native.Nat.{ℕ, _/_, _%_, _≤_, _<_}
 use mathlib.Core.Path.{_≡_, sym, ap, _∙_}
 use mathlib.Core.List.{List, []}
 use native.Mathlib.Decide.{decLt}
@@ -10,15 +10,11 @@ use lib.ListN.{getD, List·getD-eq-default}
 use lib.Seq.{ext-getD}
 use Rattle.definitions.specs.Words.{tabFrom, part}
 use Rattle.laws.specs.Judged.{tab-at, tabFrom-length}
-use Rattle.chain.specs.Arrays.{cell, cell-at, cell-mirrored}
+use Rattle.chain.specs.Arrays.{cell}
 use Rattle.figures.specs.Filled.{Filled}
 
 pub record OfParts (count : ℕ) : Type 0 where
   pub few : count ≤ 31
-
-pub record OfEntry (count c : ℕ) : Type 0 where
-  pub few : count ≤ 31
-  pub inside : c < 961
 
 abbrev pub ownShown : ℕ → List ℕ → List ℕ
 ownShown count D = tabFrom 0 31 (λ k. getD (tabFrom 0 count (λ i. getD D i 0)) k 0)
@@ -51,12 +47,6 @@ module _ {A : Type 0} (n : ℕ) (f : ℕ → A) where
       at : (k : ℕ) → k < size → getD v k empty ≡ getD (tabFrom 0 size (λ i. getD (tabFrom 0 n f) i empty)) k empty
       at k below = by-place k (decLt k n) ∙ sym (tab-at size (λ i. getD (tabFrom 0 n f) i empty) k empty below)
 
--- an array that is filled whole
-pub filled-whole : {A : Type 0} {size : ℕ} {empty : A} {f : ℕ → A} {v : List A} → Filled size size empty f v → v ≡ tabFrom 0 size f
-filled-whole {size = size} {empty = empty} {f = f} {v = v} h =
-    ext-getD empty v _ (h .long ∙ sym (tabFrom-length 0 size f))
-    (λ k below. h .front k (omega (arith, h .long)) ∙ sym (tab-at size f k empty (omega (arith, h .long))))
-
 -- ---- an entry of the matrix
 
 module _ (count : ℕ) (A : List ℤ) (c : ℕ) where
@@ -73,12 +63,5 @@ module _ (count : ℕ) (A : List ℤ) (c : ℕ) where
     entry-behind h = entry-row ∙ behind count _ (c % 31) (pos 0) h
 
     module _ (column : c % 31 < count) where
-      entry-is : entryShown count A c ≡ cell A (c / 31) (c % 31)
+      pub entry-is : entryShown count A c ≡ cell A (c / 31) (c % 31)
       entry-is = entry-row ∙ tab-at count (cell A (c / 31)) (c % 31) (pos 0) column
-
-      pub entry-held : c % 31 ≤ c / 31 → entryShown count A c ≡ part A (31 * (c / 31) + c % 31)
-      entry-held h = entry-is ∙ cell-at A (c / 31) (c % 31) h
-
-      -- above the diagonal
-      pub entry-mirrored : c / 31 ≤ c % 31 → entryShown count A c ≡ part A (31 * (c % 31) + c / 31)
-      entry-mirrored h = entry-is ∙ cell-mirrored A (c / 31) (c % 31) ∙ cell-at A (c % 31) (c / 31) h

@@ -1,6 +1,6 @@
 // The test of what a session holds. No value carries a proof, so every call tests what its arithmetic needs; a session that
 // fails it counts as empty. None that `open` made ever fails it. The matrix's entries off the diagonal are tested where
-// they are multiplied (`chain::residues`), all else here.
+// they are multiplied (`chain::residues`) or shown (`shown`), all else here.
 ghost use Rattle.chain.specs.Decides.{Decides};
 ghost use Rattle.session.specs.Bounds.{PartFits, PartsFit, OfBounds, FrameFits};
 ghost use Rattle.session.specs.State.{Fits, sessionAt};

@@ -2,9 +2,9 @@
 // the mean and the sweeps run since open. A call that is not refused changes what it is lent by `&mut` and nothing else.
 ghost use Rattle.session.specs.State.{sessionAt, sessionHeld};
 ghost use Rattle.session.specs.Calls.{Opens, Judges, Sweeps, Reads, Shows};
+ghost use Rattle.session.specs.ShowCall.{Zeros, PartsShown};
 ghost use Rattle.session.specs.SweepCall.{OpenSweep};
 ghost use Rattle.session.specs.Diagonal.{OfDiagonal, DiagonalOf};
-use crate::answers::FiguresAnswer;
 use crate::answers::JudgeAnswer;
 use crate::answers::OpenAnswer;
 use crate::answers::ReadAnswer;
@@ -12,8 +12,9 @@ use crate::answers::Showing;
 use crate::answers::SweepAnswer;
 use crate::bounds::frame_fits;
 use crate::bounds::is_open;
+use crate::shown::answer_shown;
+use crate::shown::closeness_shown;
 use crate::shown::matrix_shown;
-use crate::shown::no_figures;
 use crate::shown::own_shown;
 use crate::shown::right_hand_shown;
 use chain::arrays::Figures;
@@ -202,7 +203,30 @@ pub fn read_lent<'a>(
     ReadAnswer::Written
 }
 
-// 21. The session is as it was.
+// How many parts are shown: all of an open file, and otherwise none. Their matrix is put in an array of zeros.
+fn parts_shown<'a>(
+    last: usize,
+    closeness: u64,
+    total: u64,
+    own: &'a [u64; 31],
+    matrix: &'a [i64; 961],
+    right_hand: &'a [i64; 31],
+    mean: &'a [i64; 31],
+    shown: &'a mut [i64; 961],
+) -> usize
+    requires { ⌜ Zeros (now shown) ⌝ }
+    ensures { λ r. ⌜ PartsShown
+        (sessionAt last closeness total (now (own .entry)) (now (matrix .entry)) (now («right_hand» .entry)) (now (mean .entry)))
+        r (now (shown .exit)) ⌝ }
+{
+    let framed = frame_fits(last, closeness, total, own, matrix, right_hand, mean);
+    if !framed {
+        return 0;
+    }
+    matrix_shown(2 * last + 1, matrix, shown)
+}
+
+// 21. The session is as it was. With no part shown every number is 0, so that a refusal takes the same way: the matrix is copied once.
 pub fn figures_lent<'a>(
     last: usize,
     closeness: u64,
@@ -216,26 +240,29 @@ pub fn figures_lent<'a>(
         (sessionAt last closeness total (now (own .entry)) (now (matrix .entry)) (now («right_hand» .entry)) (now (mean .entry)))
         r ⌝ }
 {
-    if !is_open(last, closeness, total, own, matrix, right_hand, mean) {
-        let nothing = no_figures();
-        return Showing {
-            answer: FiguresAnswer::Refused(21, 0),
-            figures: nothing,
-        };
-    }
-    let count = 2 * last + 1;
+    let mut entries = [0i64; 961];
+    let count = parts_shown(
+        last,
+        closeness,
+        total,
+        own,
+        matrix,
+        right_hand,
+        mean,
+        &mut entries,
+    );
+    let answer = answer_shown(count);
     let weights = own_shown(count, own);
-    let entries = matrix_shown(count, matrix);
     let targets = right_hand_shown(count, right_hand);
     let shown = Figures {
-        last: last,
-        closeness: closeness,
+        last: count / 2,
+        closeness: closeness_shown(count, closeness),
         own: weights,
         matrix: entries,
         right_hand: targets,
     };
     Showing {
-        answer: FiguresAnswer::Shown,
+        answer: answer,
         figures: shown,
     }
 }

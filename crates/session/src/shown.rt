@@ -1,9 +1,13 @@
 // What is shown of an open file's figures. A session counts the entries on and below the diagonal alone, and nothing behind the
-// parts 0..2J, `count` of them: what is shown has both halves of the matrix, and zeros behind the parts.
+// parts 0..2J, `count` of them: what is shown has both halves of the matrix, and zeros behind the parts. Where nothing is open
+// `count` is 0, and so is every number.
 ghost use mathlib.Core.Path.{_≡_};
 ghost use Rattle.session.specs.Calls.{noFigures};
-ghost use Rattle.session.specs.Shown.{OfParts, OfEntry, ownShown, rightHandShown, entryShown, matrixShown};
+ghost use Rattle.session.specs.ShowCall.{OfRow, OfMatrix, RowShown, MatrixShown, answerShown, closenessShown};
+ghost use Rattle.session.specs.Shown.{OfParts, ownShown, rightHandShown};
+use crate::answers::FiguresAnswer;
 use chain::arrays::Figures;
+use chain::residues::entry_fits;
 
 // The figures of no file.
 pub fn no_figures() -> Figures
@@ -16,6 +20,24 @@ pub fn no_figures() -> Figures
         matrix: [0; 961],
         right_hand: [0; 31],
     }
+}
+
+pub fn answer_shown(count: usize) -> FiguresAnswer
+    ensures { λ r. ⌜ r ≡ answerShown count ⌝ }
+{
+    if count < 1 {
+        return FiguresAnswer::Refused(21, 0);
+    }
+    FiguresAnswer::Shown
+}
+
+pub fn closeness_shown(count: usize, closeness: u64) -> u64
+    ensures { λ r. ⌜ r ≡ closenessShown count closeness ⌝ }
+{
+    if count < 1 {
+        return 0;
+    }
+    closeness
 }
 
 pub fn own_shown(count: usize, own: &[u64; 31]) -> [u64; 31]
@@ -46,35 +68,40 @@ pub fn right_hand_shown(count: usize, right_hand: &[i64; 31]) -> [i64; 31]
     shown
 }
 
-// The entry at c: row c / 31, column c % 31.
-fn entry_shown(count: usize, matrix: &[i64; 961], c: usize) -> i64
-    requires { ⌜ OfEntry count c ⌝ }
-    ensures { λ r. ⌜ r ≡ entryShown count (now (matrix .entry)) c ⌝ }
+// Row k up to its diagonal, each entry also where it is mirrored. An entry off the diagonal is tested where it is read.
+fn row_shown(matrix: &[i64; 961], shown: &mut [i64; 961], k: usize) -> bool
+    requires { ⌜ OfRow (now matrix) (now shown) k ⌝ }
+    ensures { λ r. ⌜ RowShown (now (matrix .entry)) k r (now (shown .exit)) ⌝ }
 {
-    let k = c / 31;
-    let l = c % 31;
-    if count <= k {
-        return 0;
+    let row = 31 * k;
+    let mut l = 0usize;
+    while l < k {
+        let entry = matrix[row + l];
+        if !entry_fits(entry) {
+            return false;
+        }
+        shown[row + l] = entry;
+        shown[31 * l + k] = entry;
+        l += 1;
     }
-    if count <= l {
-        return 0;
-    }
-    if k < l {
-        return matrix[31 * l + k];
-    }
-    matrix[31 * k + l]
+    let diagonal = matrix[row + k];
+    shown[row + k] = diagonal;
+    true
 }
 
-pub fn matrix_shown(count: usize, matrix: &[i64; 961]) -> [i64; 961]
-    requires { ⌜ OfParts count ⌝ }
-    ensures { λ r. ⌜ r ≡ matrixShown count (now (matrix .entry)) ⌝ }
+// The matrix of so many parts, in an array of zeros: one pass tests it and shows it. Where a row does not fit none is shown.
+pub fn matrix_shown(count: usize, matrix: &[i64; 961], shown: &mut [i64; 961]) -> usize
+    requires { ⌜ OfMatrix count (now shown) ⌝ }
+    ensures { λ r. ⌜ MatrixShown count (now (matrix .entry)) r (now (shown .exit)) ⌝ }
 {
-    let mut shown = [0i64; 961];
-    let mut c = 0usize;
-    while c < 961 {
-        let entry = entry_shown(count, matrix, c);
-        shown[c] = entry;
-        c += 1;
+    let mut k = 0usize;
+    while k < count {
+        if !row_shown(matrix, shown, k) {
+            let nothing = [0i64; 961];
+            *shown = nothing;
+            return 0;
+        }
+        k += 1;
     }
-    shown
+    count
 }
