@@ -11,15 +11,19 @@ use std::hint::black_box;
 use std::process::{Command, Stdio};
 use std::time::Instant;
 
+type Weights = [u64; PARTS];
+type Matrix = [i64; PARTS * PARTS];
+type Vector = [i64; PARTS];
+
 /// The session and the answers of include/desk.h.
 #[repr(C)]
 #[derive(Clone)]
 struct Held {
     held: [u64; 3],
-    own: [u64; PARTS],
-    matrix: [i64; PARTS * PARTS],
-    right_hand: [i64; PARTS],
-    mean: [i64; PARTS],
+    own: Weights,
+    matrix: Matrix,
+    right_hand: Vector,
+    mean: Vector,
 }
 
 #[repr(C)]
@@ -42,17 +46,24 @@ struct System {
     refusal: Refusal,
     last: u64,
     closeness: u64,
-    own: [u64; PARTS],
-    matrix: [i64; PARTS * PARTS],
-    right_hand: [i64; PARTS],
+    own: Weights,
+    matrix: Matrix,
+    right_hand: Vector,
 }
 
 extern "C" {
-    fn desk_open_lent(held: &mut [u64; 3], own: &mut [u64; PARTS], matrix: &mut [i64; PARTS * PARTS], right_hand: &mut [i64; PARTS], mean: &mut [i64; PARTS], file: *const u8, length: usize) -> Refusal;
-    fn desk_judge_lent(held: &[u64; 3], own: &[u64; PARTS], matrix: &[i64; PARTS * PARTS], right_hand: &[i64; PARTS], mean: &[i64; PARTS], record: *const u8, length: usize) -> Told;
-    fn desk_sweep_lent(held: &mut [u64; 3], own: &[u64; PARTS], matrix: &[i64; PARTS * PARTS], right_hand: &[i64; PARTS], mean: &mut [i64; PARTS], n: u64) -> Told;
-    fn desk_read_lent(held: &[u64; 3], own: &[u64; PARTS], matrix: &[i64; PARTS * PARTS], right_hand: &[i64; PARTS], mean: &[i64; PARTS], buffer: *mut u8, length: usize) -> Refusal;
-    fn desk_figures_lent(held: &[u64; 3], own: &[u64; PARTS], matrix: &[i64; PARTS * PARTS], right_hand: &[i64; PARTS], mean: &[i64; PARTS]) -> System;
+    fn desk_open_lent(
+        held: &mut [u64; 3], own: &mut Weights, matrix: &mut Matrix, right_hand: &mut Vector, mean: &mut Vector,
+        file: *const u8, length: usize,
+    ) -> Refusal;
+    fn desk_judge_lent(
+        held: &[u64; 3], own: &Weights, matrix: &Matrix, right_hand: &Vector, mean: &Vector, record: *const u8, length: usize,
+    ) -> Told;
+    fn desk_sweep_lent(held: &mut [u64; 3], own: &Weights, matrix: &Matrix, right_hand: &Vector, mean: &mut Vector, n: u64) -> Told;
+    fn desk_read_lent(
+        held: &[u64; 3], own: &Weights, matrix: &Matrix, right_hand: &Vector, mean: &Vector, buffer: *mut u8, length: usize,
+    ) -> Refusal;
+    fn desk_figures_lent(held: &[u64; 3], own: &Weights, matrix: &Matrix, right_hand: &Vector, mean: &Vector) -> System;
     fn desk_close_lent(held: &mut [u64; 3]);
 }
 
@@ -68,7 +79,8 @@ impl Held {
     }
     fn open(&mut self, file: &[u8]) -> Refusal {
         // SAFETY: the pointer is the slice's, valid for its length; the arrays are five different fields.
-        unsafe { desk_open_lent(&mut self.held, &mut self.own, &mut self.matrix, &mut self.right_hand, &mut self.mean, file.as_ptr(), file.len()) }
+        let Held { held, own, matrix, right_hand, mean } = self;
+        unsafe { desk_open_lent(held, own, matrix, right_hand, mean, file.as_ptr(), file.len()) }
     }
     fn judge(&self, record: &[u8]) -> Told {
         // SAFETY: as above.

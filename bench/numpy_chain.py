@@ -43,7 +43,8 @@ def figures(given: dict[str, np.ndarray]) -> tuple[np.ndarray, np.ndarray]:
     """Precision matrix and right-hand side of Theorem 3.4, with a column for each part."""
     last = len(given["tau2"])
     paid, incurred = (np.log2(given[name]) * TICKS_PER_DOUBLING for name in ("paid", "incurred"))
-    steps = np.concatenate([np.nansum(paid[:, :1], axis=0), np.nansum(np.diff(paid, axis=1), axis=0), np.nansum(np.diff(incurred, axis=1), axis=0)])
+    of_each = (paid[:, :1], np.diff(paid, axis=1), np.diff(incurred, axis=1))
+    steps = np.concatenate([np.nansum(column, axis=0) for column in of_each])
     counts = np.concatenate([np.arange(last + 1, 0, -1), np.arange(last, 0, -1)])
     variances = np.concatenate([given["sigma2"], given["tau2"]])
     to_come = np.cumsum((given["sigma2"][1:] + given["tau2"])[::-1])[::-1]  # by development year

@@ -7,7 +7,7 @@ use mathlib.Core.Bool.{true}
 use mathlib.Core.List.{List, [], _∷_}
 use native.Mathlib.Omega.{arith}
 use lib.IntN.{ℤ, pos, negsuc}
-use lib.ListN.{length, getD, take, drop}
+use lib.ListN.{length, getD, take, drop, replicate}
 use Rattle.definitions.specs.Words.{within, part}
 use Rattle.definitions.specs.Layout.{Bytes, lastYear, closeness, rowStart, meanOf}
 use Rattle.definitions.specs.Refusals.{clear, refuses, rowCheck, recordCheck}
@@ -122,11 +122,16 @@ module _ (s : Session) (lent : Bytes) where
 
 module _ (s : Session) (r : System) (call : Shows s r) where
   pub none-shown : stateOf s ≡ empty
-      → (r .refusal ≡ refusal 21 0) × (r .last ≡ 0) × (getD (r .own) 30 0 ≡ 0) × (part (r .matrix) 960 ≡ pos 0)
+      → r ≡ record {
+        refusal = refusal 21 0;
+        last = 0;
+        closeness = 0;
+        own = replicate 31 0;
+        matrix = replicate 961 (pos 0);
+        «right_hand» = replicate 31 (pos 0);
+      }
   unfolding showsTo
-  none-shown none =
-      let e = call .told ∙ ap (λ st. systemTold (showsTo st)) none in
-      (ap (λ x. x .refusal) e, ap (λ x. x .last) e, ap (λ x. getD (x .own) 30 0) e, ap (λ x. part (x .matrix) 960) e)
+  none-shown none = call .told ∙ ap (λ st. systemTold (showsTo st)) none
 
   pub figures-done : showsTo (stateOf s) .answer ≢ Refused 0 0
   figures-done = call .numbered 0

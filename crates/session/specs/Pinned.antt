@@ -4,7 +4,7 @@ use mathlib.Core.Path.{_≡_, refl, ap, _∙_}
 use mathlib.Core.List.{List}
 use native.Mathlib.Omega.{arith}
 use lib.IntN.{ℤ, pos}
-use lib.ListN.{getD}
+use lib.ListN.{getD, replicate}
 use Rattle.definitions.specs.Words.{tabFrom, part}
 use Rattle.definitions.specs.Layout.{Bytes, lastYear, parts, priorMean, closeness, meanOf}
 use Rattle.definitions.specs.Refusals.{Check, clear, refuses, recordCheck}
@@ -12,6 +12,7 @@ use Rattle.definitions.specs.Observations.{chainOf}
 use Rattle.definitions.specs.Matrix.{Figures, figuresOf, entry, own, matrix, rightHand}
 use Rattle.definitions.specs.Machine.{Answer, opened, refused, empty, holds, Outcome, isClear, openCheck, openUnless, openCall}
 use Rattle.laws.specs.Judged.{tab-at}
+use Rattle.chain.specs.Arrays.{figuresAt}
 use Rattle.laws.specs.Pinned.{Worth, worth, Near, rounded}
 use Rattle.layout.specs.CheckLaws.{within-yes}
 use Rattle.session.specs.declared.Session.{Session}
@@ -78,11 +79,10 @@ opened-holds s t f none call =
 -- ---- what is shown of a session
 
 module _ (s : Session) (r : Showing) (call : Shows s r) where
-  pub none-shown : stateOf s ≡ empty → (r .answer ≡ FiguresRefused 21 0) × (r .figures .last ≡ 0) × (part (r .figures .matrix) 960 ≡ pos 0)
+  pub none-shown : stateOf s ≡ empty
+      → r ≡ record { answer = FiguresRefused 21 0; figures = figuresAt 0 0 (replicate 31 0) (replicate 961 (pos 0)) (replicate 31 (pos 0)) }
   unfolding showsTo
-  none-shown none =
-      let e = call .shown ∙ ap showsTo none in
-      (ap (λ x. x .answer) e, ap (λ x. x .figures .last) e, ap (λ x. part (x .figures .matrix) 960) e)
+  none-shown none = call .shown ∙ ap showsTo none
 
   module _ (F : Figures) (μ : List ℤ) (count : ℕ) (some : stateOf s ≡ holds F μ count) where
     e : r ≡ showsTo (holds F μ count)

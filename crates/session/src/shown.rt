@@ -34,10 +34,7 @@ pub fn answer_shown(count: usize) -> FiguresAnswer
 pub fn closeness_shown(count: usize, closeness: u64) -> u64
     ensures { λ r. ⌜ r ≡ closenessShown count closeness ⌝ }
 {
-    if count < 1 {
-        return 0;
-    }
-    closeness
+    if count < 1 { 0 } else { closeness }
 }
 
 pub fn own_shown(count: usize, own: &[u64; 31]) -> [u64; 31]
