@@ -11,6 +11,7 @@ from typing import Any, NamedTuple
 
 from .arguments import counted, sequence, sequence_of, shown, whole, wrong_type
 from .layout import VERSION, Field, Mean, file_fields, record_fields
+from .wording import limits
 from .wording import number as in_words
 
 Triangle = Sequence[Sequence[int]]  # accident year 0 first; accident year i has columns 0..J-i
@@ -82,6 +83,6 @@ def _bytes_of(field: Field, given: int) -> bytes:
     number, kind = whole(field.name, given), field.kind
     low, high = kind.held()
     if not low <= number <= high:
-        held = f"from {in_words(low)} to {in_words(high)}, which {counted(kind.width, 'byte')} can hold"
-        raise ValueError(f"{field.name} must be {held}, not {in_words(number)}")
+        held = f"{counted(kind.width, 'byte')} cannot hold {in_words(number)}"
+        raise ValueError(f"{field.name} must be from {limits(*kind.limits, kind.unit)}: its {held}")
     return number.to_bytes(kind.width, "big", signed=kind.signed)

@@ -48,7 +48,7 @@ class Refused(Exception):
         self.value = value
         self.limits = limits
         self.details = details
-        self.words = WORDS[number]
+        self.words = WORDS.get(number, "no such refusal")  # of a library that is newer than this package
 
     def __str__(self) -> str:
         said = f"refused {self.number} at {self.place}: {self.words}"

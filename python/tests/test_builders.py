@@ -11,6 +11,8 @@ import samples
 from layout import File, build_file, build_record
 from reserving_desk import Mean, Prior, Refused, Session, file_of, record_of
 
+DOUBLINGS = "must be from -64 to 64 doublings, that is -67,108,864 to 67,108,864 ticks: its 4 bytes cannot hold"
+
 
 def built(file: File) -> bytes:
     """The reference's numbers through the package's builder, as lists."""
@@ -61,19 +63,21 @@ class Files(unittest.TestCase):
 
     def test_what_does_not_fit_is_named(self) -> None:
         f = samples.file_f()
-        eight = "must be from 0 to 18,446,744,073,709,551,615, which 8 bytes can hold, not"
-        four = "must be from -2,147,483,648 to 2,147,483,647, which 4 bytes can hold, not"
+        ticks = "must be from 1 to 65,536 ticks: its 4 bytes cannot hold"
+        variance = "must be from 262,144 to 1,099,511,627,776, a standard deviation from 0.00034 to 0.69: its 8 bytes cannot hold"
+        prior = "must be from 262,144 to 70,368,744,177,664, a standard deviation from 0.00034 to 5.5: its 8 bytes cannot hold"
+        amount = "must be from 1 to 1,099,511,627,776: its 8 bytes cannot hold"
         wrong = {
-            "closeness must be from 0 to 4,294,967,295, which 4 bytes can hold, not 4,294,967,296": replace(f, closeness=1 << 32),
-            "closeness must be from 0 to 4,294,967,295, which 4 bytes can hold, not -1": replace(f, closeness=-1),
-            f"sigma squared of development year 1 {eight} -1": replace(f, sigma2=(1 << 30, -1)),
-            f"tau squared of development year 0 {eight} 18,446,744,073,709,551,616": replace(f, tau2=(1 << 64,)),
-            f"tau squared of development year 0 {eight} a number of 20,001 bits": replace(f, tau2=(1 << 20_000,)),
-            f"prior mean of psi of development year 0 {four} 2,147,483,648": replace(f, prior_means=(0, 0, 1 << 31)),
-            f"prior variance of phi of development year 0 {eight} -5": replace(f, prior_variances=(-5, 1 << 46, 1 << 46)),
-            f"paid amount of accident year 1, development year 0 {eight} -7": replace(f, paid=((1 << 10, 1 << 11), (-7,))),
-            f"incurred amount of accident year 0, development year 1 {eight} -1": replace(f, incurred=((1, -1), (1,))),
-            "last development year J must be from 0 to 255, which 1 byte can hold, not 256": samples.file_at_limits(256, 0),
+            f"closeness {ticks} 4,294,967,296": replace(f, closeness=1 << 32),
+            f"closeness {ticks} -1": replace(f, closeness=-1),
+            f"sigma squared of development year 1 {variance} -1": replace(f, sigma2=(1 << 30, -1)),
+            f"tau squared of development year 0 {variance} 18,446,744,073,709,551,616": replace(f, tau2=(1 << 64,)),
+            f"tau squared of development year 0 {variance} a number of 20,001 bits": replace(f, tau2=(1 << 20_000,)),
+            f"prior mean of psi of development year 0 {DOUBLINGS} 2,147,483,648": replace(f, prior_means=(0, 0, 1 << 31)),
+            f"prior variance of phi of development year 0 {prior} -5": replace(f, prior_variances=(-5, 1 << 46, 1 << 46)),
+            f"paid amount of accident year 1, development year 0 {amount} -7": replace(f, paid=((1 << 10, 1 << 11), (-7,))),
+            f"incurred amount of accident year 0, development year 1 {amount} -1": replace(f, incurred=((1, -1), (1,))),
+            "last development year J must be from 1 to 15: its 1 byte cannot hold 256": samples.file_at_limits(256, 0),
         }
         for message, file in wrong.items():
             with self.assertRaises(ValueError) as caught:
@@ -103,7 +107,7 @@ class Records(unittest.TestCase):
             self.assertEqual(record_of(mean), bytes(buffer))
 
     def test_what_does_not_fit_is_named(self) -> None:
-        with self.assertRaisesRegex(ValueError, "^psi of development year 0 must be from .* 4 bytes can hold, not 2,147,483,648$"):
+        with self.assertRaisesRegex(ValueError, f"^psi of development year 0 {DOUBLINGS} 2,147,483,648$"):
             record_of(Mean((0, 0), (1 << 31,)))
 
 

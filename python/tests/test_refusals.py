@@ -46,6 +46,11 @@ def open_nothing(file: bytes) -> None:
     Session().open(file)
 
 
+class OfANewerLibrary(unittest.TestCase):
+    def test_a_number_without_words(self) -> None:
+        self.assertEqual(str(Refused(99)), "refused 99 at 0: no such refusal")
+
+
 class ByNumber(unittest.TestCase):
     def test_of_a_file(self) -> None:
         self.assertEqual(SPOILED_FILE.keys(), damage.SPOIL_FILE.keys())

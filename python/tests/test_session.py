@@ -80,6 +80,17 @@ class Lent(unittest.TestCase):
             self.assertEqual(buffer, record + scripts.LENT_BYTE * (size - len(record)))
             buffer.append(0)  # nothing holds on to it
 
+    def test_a_buffer_that_is_too_short_can_be_made_longer(self) -> None:
+        desk = Session()
+        desk.open(F)
+        buffer = bytearray()
+        with self.assertRaises(Refused) as caught:
+            desk.read_into(buffer)
+        self.assertEqual(caught.exception.number, 13)
+        buffer.extend(bytes(17))  # while the refusal, and what it holds on to, is there
+        desk.read_into(buffer)
+        self.assertEqual(buffer, build_record(SETTLED))
+
 
 class Numbers(unittest.TestCase):
     """Every whole number has its answer, also those beyond 64 bits."""
