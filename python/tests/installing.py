@@ -12,7 +12,7 @@ from pathlib import Path
 from paths import ROOT
 
 PACKAGE = ROOT / "python"
-OLDEST_MINOR, NEWEST_MINOR = 9, 20  # of Python 3, among which the machine's interpreters are looked for
+OLDEST_MINOR, NEWEST_MINOR = 10, 20  # of Python 3, among which the machine's interpreters are looked for
 
 # Prints what a wheel needs and the interpreter does not have; setuptools makes wheels itself from 70.1 on.
 TO_BUILD = """
