@@ -8,6 +8,7 @@ import unittest
 from socket import AF_UNIX, socket
 
 from checkout import checkout
+from declared import text_of
 
 LISTING = "J 1\nsweeps 0\nphi 0 10485760\nphi 1 1048576\npsi 0 -1048576\n"
 
@@ -24,6 +25,11 @@ class Status(unittest.TestCase):
                 done = desk.run("run", "-")
                 self.assertEqual((done.stdout, done.returncode), (printed, status))
                 self.assertEqual(done.stderr, "run: the listing program printed no listing\n" if status == 2 else "")
+
+    def test_is_what_the_readme_says(self) -> None:
+        said = "A file that is refused prints `refused NUMBER at PLACE`; one whose sweeps are used up before its mean passes prints " \
+               "`spent 4096`. The exit status is 0 for a listing, 1 for these two, 2 for misuse."
+        self.assertIn(said, " ".join(text_of("README.md").split()))
 
     def test_of_a_program_that_fails(self) -> None:
         with checkout() as desk:
