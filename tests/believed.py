@@ -20,7 +20,7 @@ from declared import crates, files, files_of, folders, text_of
 from documents import blocks, sentences
 from resolving import Named, resolved
 
-SESSION = ("crates/session/src/calls.rt", "crates/session/src/lent.rt", "crates/session/src/state.rt")
+SESSION = "crates/session/src"
 LISTING = ("crates/listing/src/main.rt", "list")
 DOCUMENT = "docs/CLAIMS.md"
 LIST = "## What must be believed besides"
@@ -36,7 +36,9 @@ Function = tuple[str, str]  # the file and the name
 def border() -> list[Function]:
     table = re.findall(r"^\| `(\w+)::(\w+)::(\w+)` \|", text_of("docs/SPECIFICATION.md"), re.MULTILINE)
     found = [(f"crates/{crate}/src/{module}.rt", name) for crate, module, name in table]
-    found += [(path, name) for path in SESSION for name in re.findall(r"^pub fn (\w+)", text_of(path), re.MULTILINE)]
+    public = re.findall(r"^pub mod (\w+);", text_of(f"{SESSION}/lib.rt"), re.MULTILINE)
+    for path in (f"{SESSION}/{module}.rt" for module in ("lib", *public)):
+        found += [(path, name) for name in re.findall(r"^pub fn (\w+)", text_of(path), re.MULTILINE)]
     for path in files_of("desk", "src/", ".rt"):
         found += [(path, name) for name in re.findall(r'^pub extern "C" fn (\w+)', text_of(path), re.MULTILINE)]
     return list(dict.fromkeys([*found, LISTING]))
