@@ -13,7 +13,10 @@ use Rattle.definitions.specs.Layout.{Bytes, bigEndian, unsigned, twosCom
 use Rattle.definitions.specs.Refusals.{fields, check1, check2, check3, check4, check5, check6, check7, check8, check9, check10, fileCheck}
 use Rattle.definitions.specs.Observations.{Chain, chainOf, ratioVariance, paidStep, incurredStep, lastRatio}
 use Rattle.definitions.specs.Matrix.{Figures, figuresOf, partOf, own, matrix, rightHand, residue, passed, fails, judgement, judgeFrom}
-use Rattle.definitions.specs.Machine.{accepted, check16}
+use Rattle.definitions.specs.Text.{ascii, decimalFrom, signedDecimal, aligned, nameOf, indexOf, lines}
+use Rattle.definitions.specs.Page.{pageLine, pageOf}
+use Rattle.definitions.specs.Machine.{accepted, check16, openCall, sweepCall}
+use Rattle.definitions.specs.Programs.{partLine, sweepText, openText, programText, listed, listing, boardPage}
 
 -- ---- File F, byte by byte, with closeness e: J = 1, σ² and τ² all 2^30, prior variances 2^46, prior means 10T, T, −T
 
@@ -80,11 +83,20 @@ pub record JointTable : Type 0 where
   -- (10T, T + 1, −T), with e = 1 and with e = 2
   pub part-1-fails : judgement F (part (mean 0 1)) ≡ fails 1
   pub part-1-passes-with-e-2 : judgement (figuresOf (fileF 2)) (part (mean 0 1)) ≡ passed
+  -- document 02, the page of F
+  pub F-page :
+      pageOf 1 (mean 0 0) (F .own)
+      ≡ ascii "phi  0  10485760     131073\n"
+      ++ ascii "phi  1   1048576      65537\n"
+      ++ ascii "psi  0  -1048576      65537\n"
+  pub F-board-page : boardPage (fileF 1) ≡ pageOf 1 (mean 0 0) (F .own)
+  pub F-listing : listing (fileF 1) ≡ ascii "J 1\nsweeps 0\nphi 0 10485760\nphi 1 1048576\npsi 0 -1048576\n"
 
 pub jointTable : JointTable
 unfolding leadingZeros sum total tabFrom logarithm bitsOf highestBit startFrom nextBit nextY weight bigEndian unsigned
     twosComplement rowStart fields check1 check2 check3 check4 check5 check6 check7 check8 check9 check10 fileCheck check16
     ratioVariance paidStep incurredStep lastRatio figuresOf partOf own matrix rightHand residue judgeFrom
+    ascii decimalFrom signedDecimal aligned nameOf indexOf lines pageLine partLine openCall sweepCall sweepText openText programText listed
 jointTable = record {
   log-of-1 = refl;
   log-of-2^40 = refl;
@@ -105,4 +117,7 @@ jointTable = record {
   two-ticks-fail = refl;
   part-1-fails = refl;
   part-1-passes-with-e-2 = refl;
+  F-page = refl;
+  F-board-page = refl;
+  F-listing = refl;
 }

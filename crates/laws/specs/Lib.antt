@@ -47,4 +47,7 @@ pub mod FileLimits
 pub mod StepLaws
 pub mod SweepLaws
 pub mod MachineLaws
+pub mod Decimal
+pub mod Lines
+pub mod Pages
 pub mod Numbers
