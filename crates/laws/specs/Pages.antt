@@ -184,15 +184,17 @@ module _ (J : ℕ) (μ : List ℤ) (D : List ℕ) where
   line-of : ℕ → Bytes
   line-of k = pageLine (partOf J k) (part μ k) (getD D k 0)
 
+  pub in-columns : PageInColumns J μ D → (k : ℕ) → k < parts J → InColumns (partOf J k) (part μ k) (getD D k 0)
+  in-columns h k below = record {
+    index-to = index-small J k (h .years) below;
+    mean-to = h .means k below;
+    own-to = h .weights k below;
+  }
+
   pub page-fits : PageInColumns J μ D → PageFits J μ D
   unfolding line-of
   page-fits h =
-      let fits : (k : ℕ) → k < parts J → LineFits (partOf J k) (part μ k) (getD D k 0)
-      = λ k below. line-fits (record {
-        index-to = index-small J k (h .years) below;
-        mean-to = h .means k below;
-        own-to = h .weights k below;
-      }) in
+      let fits : (k : ℕ) → k < parts J → LineFits (partOf J k) (part μ k) (getD D k 0) = λ k below. line-fits (in-columns h k below) in
       let wide : (k : ℕ) → k < parts J → length (line-of k) ≡ 28 = λ k below. fits k below .bytes in
       record { bytes = lines-length line-of 28 (parts J) wide; line = line-at line-of 28 (parts J) wide; fits = fits }
 

@@ -1,10 +1,10 @@
 -- What a page holds once a text is put on it, and one text behind another.
 use Prim.Native.Nat.{ℕ, zero, suc, _+_, _-_, _≤_}
-use mathlib.Core.Path.{_≡_, refl, sym, ap, subst, _∙_}
+use mathlib.Core.Path.{_≡_, refl, sym, ap, ap₂, subst, _∙_}
 use mathlib.Core.List.{List, [], _∷_, _++_, append-assoc, append-nil}
-use lib.ListN.{length, take, drop, length-append, length-take}
+use lib.ListN.{length, take, drop, take-append-drop}
 use native.Mathlib.Omega.{arith}
-use lib.Seq.{take-all, length-take-le, drop-drop, take-add}
+use lib.Seq.{take-all, length-take-le, drop-drop}
 
 -- so many bytes stand at the front of a page (the second part follows from the first: both are what `&page[..n]` is asked for)
 abbrev pub OnPage : ℕ → List ℕ → Type 0
@@ -25,6 +25,12 @@ pub record OfEnd (page : List ℕ) (at : ℕ) (bytes : List ℕ) (from : ℕ) : 
   pub on : at ≤ length page
   pub long : length bytes ≡ 20
   pub inside : from ≤ 20
+
+-- and a text in so many columns
+pub record OfColumns (page : List ℕ) (at columns : ℕ) (text : List ℕ) : Type 0 where
+  pub on : at ≤ length page
+  pub fits : length text ≤ columns
+  pub few : columns ≤ 20
 
 cut : (n : ℕ) (xs ys : List ℕ) → take n (take n xs ++ ys) ≡ take n (xs ++ ys)
 cut zero xs ys = refl
@@ -67,3 +73,17 @@ nothing page at on = record {
   front = sym (ap (take (length page)) (append-nil (take at page)) ∙ take-all (length page) (take at page) (omega (arith, length-take-le at page on)));
   behind = refl;
 }
+
+-- a text for which there is room stands there whole, and what stood behind it still does
+pub record Whole (page text now : List ℕ) (end : ℕ) : Type 0 where
+  pub ends : end ≡ length text
+  pub is : now ≡ text ++ drop (length text) page
+
+pub whole : {page text now : List ℕ} {end : ℕ} → Added page 0 text now end → length text ≤ length page → Whole page text now end
+whole {page} {text} {now} {end} a room =
+    let front : take end now ≡ text = a .front ∙ take-all (length page) text room in
+    let ends : end ≡ length text = a .counted .1 ∙ ap length front in
+    record {
+      ends = ends;
+      is = sym (take-append-drop end now) ∙ ap₂ _++_ front (a .behind ∙ ap (λ n. drop n page) ends);
+    }

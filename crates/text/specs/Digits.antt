@@ -2,7 +2,7 @@
 use Prim.Native.Nat.{ℕ, zero, suc, _+_, _-_, _/_, _%_, _^_, _≤_, _<_}
 use mathlib.Core.Path.{_≡_, refl, sym, ap, ap₂, subst, _∙_}
 use mathlib.Core.List.{List, [], _∷_, _++_, append-assoc, append-nil}
-use native.Mathlib.Nat.{pow-suc}
+use native.Mathlib.Nat.{pow-suc, zero-add, suc-add}
 use native.Mathlib.Omega.{arith}
 use lib.ListN.{length, drop, set, replicate, length-replicate}
 use lib.Seq.{set-at, drop-at}
@@ -108,3 +108,16 @@ spelt-end {text} {d} s =
 
 pub spelt-length : {text : List ℕ} {d : Digits} → Spelt text d → length (d .bytes) ≡ 20
 spelt-length {text} s = ap length (s .bytes) ∙ aligned-length 20 text (omega (arith, s .from))
+
+-- the last columns have the text right-aligned
+pub spelt-columns : {text : List ℕ} {d : Digits} (columns : ℕ) → Spelt text d → length text ≤ columns → columns ≤ 20
+    → drop (20 - columns) (d .bytes) ≡ aligned columns text
+unfolding aligned
+spelt-columns {text} columns s fits few =
+    let spaces : 20 - length text ≡ (20 - columns) + (columns - length text) = omega arith in
+    ap (drop (20 - columns)) (s .bytes ∙ ap (λ n. replicate n space ++ text) spaces)
+    ∙ fewer (20 - columns) (columns - length text) text
+  where
+    fewer : (n m : ℕ) (text : List ℕ) → drop n (replicate (n + m) space ++ text) ≡ replicate m space ++ text
+    fewer zero m text = ap (λ k. replicate k space ++ text) (zero-add m)
+    fewer (suc n) m text = ap (λ k. drop (suc n) (replicate k space ++ text)) (suc-add n m) ∙ fewer n m text

@@ -2,9 +2,9 @@
 // for, leaves what stands behind it, and answers where it ends.
 ghost use Prim.Native.Nat.{_≤_};
 ghost use lib.ListN.{length, drop};
-ghost use Rattle.definitions.specs.Text.{decimal, signedDecimal};
+ghost use Rattle.definitions.specs.Text.{decimal, signedDecimal, aligned};
 ghost use Rattle.definitions.specs.Programs.{countLine, refusalLine};
-ghost use Rattle.text.specs.Added.{Added, OfEnd};
+ghost use Rattle.text.specs.Added.{Added, OfEnd, OfColumns};
 use crate::digits::spell;
 use crate::digits::spell_signed;
 
@@ -49,6 +49,25 @@ pub fn put_signed(page: &mut [u8], at: usize, z: i64) -> usize
     let spelt = spell_signed(z);
     let bytes = spelt.bytes;
     put_end(page, at, bytes, spelt.from)
+}
+
+// Right-aligned in so many columns.
+pub fn put_in(page: &mut [u8], at: usize, columns: usize, n: u64) -> usize
+    requires { ⌜ OfColumns (now page) at columns (decimal n) ⌝ }
+    ensures { λ r. ⌜ Added (now (page .entry)) at (aligned columns (decimal n)) (now (page .exit)) r ⌝ }
+{
+    let spelt = spell(n);
+    let bytes = spelt.bytes;
+    put_end(page, at, bytes, 20 - columns)
+}
+
+pub fn put_signed_in(page: &mut [u8], at: usize, columns: usize, z: i64) -> usize
+    requires { ⌜ OfColumns (now page) at columns (signedDecimal z) ⌝ }
+    ensures { λ r. ⌜ Added (now (page .entry)) at (aligned columns (signedDecimal z)) (now (page .exit)) r ⌝ }
+{
+    let spelt = spell_signed(z);
+    let bytes = spelt.bytes;
+    put_end(page, at, bytes, 20 - columns)
 }
 
 // A name and a number.
