@@ -8,7 +8,7 @@ ghost use Rattle.calls.specs.Hex.{hexOf};
 use libc::STDOUT_FILENO;
 use session::answers::JudgeAnswer;
 use session::answers::OpenAnswer;
-use session::answers::ReadAnswer;
+use session::answers::WriteAnswer;
 use session::answers::SweepAnswer;
 
 pub fn print(text: &[u8]) -> bool {
@@ -49,10 +49,10 @@ pub fn print_sweep(answer: SweepAnswer) -> bool {
     }
 }
 
-pub fn print_read(answer: ReadAnswer) -> bool {
+pub fn print_read(answer: WriteAnswer) -> bool {
     match answer {
-        ReadAnswer::Written => print(b"read\n"),
-        ReadAnswer::Refused(number, place) => print_refusal(number, place),
+        WriteAnswer::Written => print(b"read\n"),
+        WriteAnswer::Refused(number, place) => print_refusal(number, place),
     }
 }
 

@@ -21,15 +21,15 @@ use Rattle.session.specs.declared.answers.JudgeAnswer.{JudgeAnswer}
 use Rattle.session.specs.declared.answers.JudgeAnswer.the-variants as J
 use Rattle.session.specs.declared.answers.SweepAnswer.{SweepAnswer}
 use Rattle.session.specs.declared.answers.SweepAnswer.the-variants as S
-use Rattle.session.specs.declared.answers.ReadAnswer.{ReadAnswer}
-use Rattle.session.specs.declared.answers.ReadAnswer.the-variants as R
+use Rattle.session.specs.declared.answers.WriteAnswer.{WriteAnswer}
+use Rattle.session.specs.declared.answers.WriteAnswer.the-variants as R
 use Rattle.session.specs.declared.answers.FiguresAnswer.{FiguresAnswer}
 use Rattle.session.specs.declared.answers.FiguresAnswer.the-variants as F
 use Rattle.session.specs.declared.answers.Showing.{Showing}
 use Rattle.session.specs.State.{stateOf}
 use Rattle.session.specs.StateLaws.{stateOf-empty}
 use Rattle.session.specs.Calls as C
-use Rattle.session.specs.Calls.{ofOpen, ofJudge, ofSweep, ofRead, showsTo, FiguresOf}
+use Rattle.session.specs.Calls.{ofOpen, ofJudge, ofSweep, ofWrite, showsTo, FiguresOf}
 use Rattle.desk.specs.declared.answers.Refusal.{Refusal}
 use Rattle.desk.specs.declared.answers.Judged.{Judged}
 use Rattle.desk.specs.declared.answers.Swept.{Swept}
@@ -109,8 +109,8 @@ sweeps-told s n a t h {r} e = record {
 
 -- ---- read
 
-pub reads-told : (s : Session) (before : Bytes) (a : ReadAnswer) (after : Bytes) → C.Reads s before a after
-    → {r : Refusal} → r ≡ refusalTold (ofRead a) → Reads s before r after
+pub reads-told : (s : Session) (before : Bytes) (a : WriteAnswer) (after : Bytes) → C.Reads s before a after
+    → {r : Refusal} → r ≡ refusalTold (ofWrite a) → Reads s before r after
 reads-told s before a after h {r} e = record {
   told = e ∙ ap refusalTold (h .answer);
   numbered = numbered;
@@ -121,7 +121,7 @@ reads-told s before a after h {r} e = record {
     numbered : Numbered (C.readsTo (stateOf s) before .answer)
     numbered = never-0 (N.read-numbered D.Figures D.figuresOf itself (stateOf s) before)
 
-    is-written : (a : ReadAnswer) → ofRead a ≡ C.readsTo (stateOf s) before .answer → refusalTold (ofRead a) .number ≡ 0 → a ≡ R.Written
+    is-written : (a : WriteAnswer) → ofWrite a ≡ C.readsTo (stateOf s) before .answer → refusalTold (ofWrite a) .number ≡ 0 → a ≡ R.Written
     is-written R.Written same none = refl
     is-written (R.Refused number place) same none =
         absurd (numbered place (sym same ∙ ap (λ n. refused n place) none))

@@ -21,7 +21,7 @@ use Rattle.laws.specs.Accepted.{accepted-file}
 use Rattle.laws.specs.FileLimits.{file-limits}
 use Rattle.laws.specs.Judged.{tab-at}
 use Rattle.laws.specs.Decimal.{readNumber, aligned-read, aligned-length, decimal-length, signed-length, From, from-append, aligned-from}
-use Rattle.laws.specs.Lines.{lines-length, line-at, Line, ended, longer, line-behind, same-lines}
+use Rattle.laws.specs.Lines.{lines-same, lines-length, line-at, Line, ended, longer, line-behind, same-lines}
 
 -- columns `from` to `to` of a line, counted from 1
 abbrev pub columns : ℕ → ℕ → Bytes → Bytes
@@ -197,6 +197,12 @@ module _ (J : ℕ) (μ : List ℤ) (D : List ℕ) where
       let fits : (k : ℕ) → k < parts J → LineFits (partOf J k) (part μ k) (getD D k 0) = λ k below. line-fits (in-columns h k below) in
       let wide : (k : ℕ) → k < parts J → length (line-of k) ≡ 28 = λ k below. fits k below .bytes in
       record { bytes = lines-length line-of 28 (parts J) wide; line = line-at line-of 28 (parts J) wide; fits = fits }
+
+-- only the parts count
+pub page-cong : (J : ℕ) (μ ν : List ℤ) (D E : List ℕ) → ((k : ℕ) → k < parts J → part μ k ≡ part ν k)
+    → ((k : ℕ) → k < parts J → getD D k 0 ≡ getD E k 0) → pageOf J μ D ≡ pageOf J ν E
+page-cong J μ ν D E means weights =
+    lines-same _ _ (parts J) (λ k below. ap₂ (pageLine (partOf J k)) (means k below) (weights k below))
 
 -- every value of an accepted file and of a mean inside the limits fits its columns
 pub file-page-fits : (f : Bytes) → accepted f ≡ true → (μ : List ℤ) → InsideLimits f (part μ) → PageFits (lastYear f) μ (figuresOf f .own)

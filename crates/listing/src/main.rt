@@ -11,7 +11,7 @@ use libc::STDIN_FILENO;
 use libc::STDOUT_FILENO;
 use session::Session;
 use session::answers::OpenAnswer;
-use session::answers::ReadAnswer;
+use session::answers::WriteAnswer;
 use session::answers::SweepAnswer;
 use session::calls::open;
 use session::calls::read;
@@ -30,7 +30,7 @@ fn list_mean(page: &mut [u8], last: u8, total: u64, s: Session) -> usize
 {
     let mut record = [0u8; 129];
     let answer = read(s, &mut record);
-    if let ReadAnswer::Refused(number, place) = answer {
+    if let WriteAnswer::Refused(number, place) = answer {
         return put_refusal(page, number, place);
     }
     let years = last as usize;

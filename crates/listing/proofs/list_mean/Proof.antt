@@ -1,7 +1,7 @@
 -- The lines of the mean, one behind the other, are those of the record that `read` left.
 use mathlib.Core.Path.{sym, ap, _∙_}
 use Rattle.session.specs.State.{stateOf}
-use Rattle.session.specs.Calls.{ofRead}
+use Rattle.session.specs.Calls.{ofWrite}
 use Rattle.listing.specs.Page.{both, in-words}
 use Rattle.listing.specs.Listing.{meanLines}
 use Rattle.listing.specs.ListingLaws.{read-written, read-refused}
@@ -29,7 +29,7 @@ returns c =
     let told = c .before .before .before .before .before in
     let read-by = told .before .before .before in
     let a = read-by .before .before .before .args in
-    let answered = sym (ap ofRead (told .answer .given .1)) ∙ read-by .read .ensures .answer in
+    let answered = sym (ap ofWrite (told .answer .given .1)) ∙ read-by .read .ensures .answer in
     in-words (read-refused (a .last) (a .total) (stateOf (a .s)) _ _ answered) (c .before .before .put-refusal .ensures)
 
 enum-told : tie.Need-enum-told
@@ -88,7 +88,7 @@ returns-2 c =
     let same₁ = headed .kept .0 in
     let same₂ = counted .kept .0 ∙ same₁ in
     let same₃ = listed .kept .0 ∙ same₂ in
-    let answered = sym (ap ofRead (told .enum-told .given .1)) ∙ read-by .read .ensures .answer in
+    let answered = sym (ap ofWrite (told .enum-told .given .1)) ∙ read-by .read .ensures .answer in
     in-words
     (ap (meanLines (a .last) (a .total)) (read-by .read .ensures .buffer) ∙ read-written (a .last) (a .total) (stateOf (a .s)) answered)
     (both (both (both (headed .ensures) same₁ (counted .ensures)) same₂ (listed .ensures)) same₃ (c .before .before .put-parts2 .ensures))

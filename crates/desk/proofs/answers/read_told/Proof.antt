@@ -1,7 +1,7 @@
 -- `answers::read_told` meets its contract, case by case.
 use mathlib.Core.Path.{sym, ap, _∙_}
 use borrow.Author.Needs.{needs}
-use Rattle.session.specs.Calls.{ofRead}
+use Rattle.session.specs.Calls.{ofWrite}
 use Rattle.desk.specs.Told.{refusalTold}
 use Rattle.desk.proofs.answers.read_told.Statement.{statement}
 use Rattle.desk.proofs.answers.read_told.Tie as tie
@@ -19,10 +19,10 @@ refusal-of-requires-2 : tie.Need-refusal-of-requires-2
 refusal-of-requires-2 c κs = search needs
 
 returns : tie.Need-returns
-returns c = c .refusal-of .ensures ∙ sym (ap (λ x. refusalTold (ofRead x)) (c .before .enum-told .given .1))
+returns c = c .refusal-of .ensures ∙ sym (ap (λ x. refusalTold (ofWrite x)) (c .before .enum-told .given .1))
 
 returns-2 : tie.Need-returns-2
-returns-2 c = c .refusal-of2 .ensures ∙ sym (ap (λ x. refusalTold (ofRead x)) (c .before .before .a .given .1))
+returns-2 c = c .refusal-of2 .ensures ∙ sym (ap (λ x. refusalTold (ofWrite x)) (c .before .before .a .given .1))
 
 pub read-told-spec : {M : Type 1} → statement M
 read-told-spec =
