@@ -116,7 +116,7 @@ pub fn sweep_told(a: SweepAnswer) -> Swept
     }
 }
 
-pub fn read_told(a: WriteAnswer) -> Refusal
+pub fn write_told(a: WriteAnswer) -> Refusal
     ensures { λ r. ⌜ r ≡ refusalTold (ofWrite a) ⌝ }
 {
     match a {
