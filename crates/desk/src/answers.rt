@@ -5,9 +5,9 @@ ghost use Rattle.desk.specs.Told.{refusalTold, judgeTold, sweepTold, fig
 use session::answers::FiguresAnswer;
 use session::answers::JudgeAnswer;
 use session::answers::OpenAnswer;
-use session::answers::WriteAnswer;
 use session::answers::Showing;
 use session::answers::SweepAnswer;
+use session::answers::WriteAnswer;
 
 #[repr(C)]
 pub struct Refusal {

@@ -103,7 +103,7 @@ same-lines f g (suc n) zero f-ends g-ends e = absurd (no-line (f-ends 0 (omega a
 same-lines f g (suc n) (suc m) f-ends g-ends e =
     let first = same-line (f-ends 0 (omega arith)) (g-ends 0 (omega arith)) _ _ (sym (lines-front f n) ∙ e ∙ lines-front g m) in
     let rest = same-lines (λ k. f (suc k)) (λ k. g (suc k)) n m (λ k h. f-ends (suc k) (omega arith)) (λ k h. g-ends (suc k) (omega arith))
-        (first .1) in
+    (first .1) in
     (ap suc (rest .0), by-place (first .0) (rest .1))
   where
     by-place : f 0 ≡ g 0 → ((k : ℕ) → k < n → f (suc k) ≡ g (suc k)) → (k : ℕ) → k < suc n → f k ≡ g k

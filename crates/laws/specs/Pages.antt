@@ -252,11 +252,13 @@ pub page-injective : (J K : ℕ) (μ ν : List ℤ) (D E : List ℕ) → J ≤ y
     → length μ ≡ parts J → length ν ≡ parts K → pageOf J μ D ≡ pageOf K ν E → (J ≡ K) × (μ ≡ ν)
 page-injective J K μ ν D E J-to K-to μ-to ν-to μ-long ν-long e =
     let same = same-lines _ _ (parts J) (parts K)
-        (λ k below. page-line-ends (partOf J k) (part μ k) (getD D k 0)) (λ k below. page-line-ends (partOf K k) (part ν k) (getD E k 0)) e in
-    let years : J ≡ K = omega (arith, same .0) in
-    (years, ext-getD (pos 0) μ ν (omega (arith, μ-long, ν-long, years)) (λ k h.
-    let below : k < parts J = omega (arith, μ-long) in
-    let below-too : k < parts K = omega (arith, years, below) in
-    sym (ticks-back (partOf J k) (part μ k) (getD D k 0) (index-small J k J-to below) (μ-to k below))
-    ∙ ap (λ line. readNumber (columns 8 16 line)) (same .1 k below)
-    ∙ ticks-back (partOf K k) (part ν k) (getD E k 0) (index-small K k K-to below-too) (ν-to k below-too)))
+    (λ k below. page-line-ends (partOf J k) (part μ k) (getD D k 0)) (λ k below. page-line-ends (partOf K k) (part ν k) (getD E k 0)) e in
+    let years : J ≡ K = omega (arith, same .0) in (
+      years,
+      ext-getD (pos 0) μ ν (omega (arith, μ-long, ν-long, years)) (λ k h.
+          let below : k < parts J = omega (arith, μ-long) in
+          let below-too : k < parts K = omega (arith, years, below) in
+          sym (ticks-back (partOf J k) (part μ k) (getD D k 0) (index-small J k J-to below) (μ-to k below))
+          ∙ ap (λ line. readNumber (columns 8 16 line)) (same .1 k below)
+          ∙ ticks-back (partOf K k) (part ν k) (getD E k 0) (index-small K k K-to below-too) (ν-to k below-too)),
+    )

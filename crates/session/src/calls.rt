@@ -6,9 +6,9 @@ ghost use Rattle.session.specs.Calls.{Opens, Judges, Sweeps, Reads, Page
 use crate::Session;
 use crate::answers::JudgeAnswer;
 use crate::answers::Opening;
-use crate::answers::WriteAnswer;
 use crate::answers::Showing;
 use crate::answers::Sweeping;
+use crate::answers::WriteAnswer;
 use crate::lent::figures_lent;
 use crate::lent::judge_lent;
 use crate::lent::open_lent;

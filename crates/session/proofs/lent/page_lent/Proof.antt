@@ -86,8 +86,8 @@ returns-3 c =
     let last = s held .figures .last in
     let buffer = now (start held .args .buffer) in
     let same = page-cong last (s held .mean) (meanOf last (s held .mean)) (s held .figures .own) (figuresOf (s held .figures) .own)
-        (λ k below. sym (tab-at (parts last) (part (s held .mean)) k (pos 0) below))
-        (λ k below. sym (tab-at (parts last) (λ i. getD (s held .figures .own) i 0) k 0 below)) in
+    (λ k below. sym (tab-at (parts last) (part (s held .mean)) k (pos 0) below))
+    (λ k below. sym (tab-at (parts last) (λ i. getD (s held .figures .own) i 0) k 0 below)) in
     subst (Pages (s held) buffer Written)
     (sym (wrote .write-page .ensures ∙ ap (λ front. front ++ drop (pageLength last) buffer) same))
     (writes-written pageLength pageIn (s held) buffer (open-file held) (passing held)
