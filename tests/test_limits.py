@@ -103,7 +103,8 @@ class Refusals(unittest.TestCase):
         wanted = {call.removesuffix("_told"): listed(numbers) for call, numbers in rows}
         comments = re.findall(r"May be refused with ((?:(?!\*/).)*)\*/\n(?:static inline )?\w+ desk_(\w+)\(", HEADER, re.DOTALL)
         self.assertEqual({call: listed(numbers) for numbers, call in comments}, wanted)
-        calls = {call: getattr(reserving_desk.Session, "read_into" if call == "read" else call) for call in wanted}
+        writing = {"read": "read_into", "page": "page_into"}  # of each the method that is lent a buffer
+        calls = {call: getattr(reserving_desk.Session, writing.get(call, call)) for call in wanted}
         told = {call: listed(re.search(r"Refused with (.*)\.", method.__doc__)[1]) for call, method in calls.items()}
         self.assertEqual(told, wanted)
 

@@ -48,7 +48,7 @@ class Promises(unittest.TestCase):
             "python3 tests/suite.py tests", "python3 tests/documents.py", "python3 tests/believed.py",
             "python3 tests/unused.py", "python3 tests/suite.py reference",
             "python3 reference vectors --check", "python3 tests/edits_across_crates.py", "rt ci |", "python3 tests/compare_programs.py",
-            "python3 tests/run_listings.py", "./build", "tests/c/run", "tests/c/install",
+            "python3 tests/run_vectors.py", "./build", "tests/c/run", "tests/c/install",
             "python3 tests/suite.py python/tests", "python3 tests/snippets.py",
         ):
             self.assertRegex(text_of("test"), rf"(?m)^ *(?:if .*; then )?{re.escape(command)}")
