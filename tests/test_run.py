@@ -36,7 +36,7 @@ class Status(unittest.TestCase):
 
     def test_is_what_the_readme_says(self) -> None:
         said = "A file that is refused prints `refused NUMBER at PLACE`; one whose sweeps are used up before its mean passes prints " \
-               "`spent 4096`. The exit status is 0 for a listing, 1 for these two, 2 for misuse."
+               "`spent 4096`. The exit status is 0 for a listing or a page, 1 for these two, 2 for misuse."
         self.assertIn(said, " ".join(text_of("README.md").split()))
 
     def test_of_a_program_that_fails(self) -> None:

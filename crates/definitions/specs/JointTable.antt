@@ -1,4 +1,5 @@
--- The specification's examples that document 01 marks with a star ("Figures to agree on"), together, computed from the definitions.
+-- The specification's examples that document 01 marks with a star ("Figures to agree on"), and the page and the listing of F, together,
+-- computed from the definitions.
 use Prim.Native.Nat.{ℕ, _+_, _^_}
 use mathlib.Core.Path.{_≡_, refl}
 use mathlib.Core.Bool.{true}

@@ -24,6 +24,10 @@
 --   MachineLaws       the machine runs on a file's figures; every state that calls reach is empty, or an accepted file with a mean
 --                     inside the limits and a total ≤ 4,096
 --   Numbers           a refusal has a number of at least 1
+--   Decimal           numbers as text: how long, read back whole
+--   Lines             texts of lines: how long, where each stands, told apart
+--   Pages             every value of a page fits its columns; two different means never share a page
+--   PinnedPage        both once more, byte by byte and in plain numbers
 pub mod LogarithmBits
 pub mod LogarithmBound
 pub mod LogarithmOrder
@@ -50,4 +54,5 @@ pub mod MachineLaws
 pub mod Decimal
 pub mod Lines
 pub mod Pages
+pub mod PinnedPage
 pub mod Numbers

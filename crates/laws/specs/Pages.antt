@@ -1,6 +1,6 @@
 -- The page: every value fits its columns, and two different means never share a page.
-use Prim.Native.Nat.{ℕ, zero, suc, _+_, _*_, _-_, _^_, _≤_, _<_}
-use mathlib.Core.Path.{_≡_, refl, sym, ap, ap₂, subst, _∙_}
+use Prim.Native.Nat.{ℕ, _+_, _*_, _-_, _^_, _≤_, _<_}
+use mathlib.Core.Path.{_≡_, refl, sym, ap, ap₂, _∙_}
 use mathlib.Core.Bool.{Bool, true, false, cond}
 use mathlib.Core.List.{List, [], _∷_, _++_, append-assoc}
 use native.Mathlib.Omega.{arith}
@@ -13,15 +13,15 @@ use Rattle.definitions.specs.Layout.{Bytes, lastYear, parts}
 use Rattle.definitions.specs.Refusals.{yearLimit, partLimit}
 use Rattle.definitions.specs.Observations.{chainOf}
 use Rattle.definitions.specs.Matrix.{Part, Φ, Ψ, partOf, own, figuresOf}
-use Rattle.definitions.specs.Text.{ascii, space, lineFeed, decimalFrom, moreDigits, decimal, signedDecimal, aligned, nameOf, indexOf, lines}
-use Rattle.definitions.specs.Page.{pageLine, pageOf, pageLength}
+use Rattle.definitions.specs.Text.{ascii, space, lineFeed, decimalFrom, moreDigits, decimal, signedDecimal, aligned, nameOf, indexOf}
+use Rattle.definitions.specs.Page.{pageLine, pageOf}
 use Rattle.definitions.specs.Machine.{accepted}
 use Rattle.definitions.specs.Guarantee.{InsideLimits}
 use Rattle.laws.specs.Accepted.{accepted-file}
 use Rattle.laws.specs.FileLimits.{file-limits}
 use Rattle.laws.specs.Judged.{tab-at}
 use Rattle.laws.specs.Decimal.{readNumber, aligned-read, aligned-length, decimal-length, signed-length, From, from-append, aligned-from}
-use Rattle.laws.specs.Lines.{lines-same, lines-length, line-at, Line, ended, longer, line-behind, same-lines}
+use Rattle.laws.specs.Lines.{lines-same, lines-length, line-at, Line, ended, line-behind, same-lines}
 
 -- columns `from` to `to` of a line, counted from 1
 abbrev pub columns : ℕ → ℕ → Bytes → Bytes

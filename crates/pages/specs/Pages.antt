@@ -1,13 +1,12 @@
 -- What the writer of a page asks, and its lines as they are put: each number with the space before it.
-use Prim.Native.Nat.{ℕ, suc, _-_, _^_, _≤_, _<_}
-use mathlib.Core.Path.{_≡_, refl, ap, _∙_}
+use Prim.Native.Nat.{ℕ, suc, _-_, _≤_}
+use mathlib.Core.Path.{_≡_, refl, ap}
 use mathlib.Core.List.{List, [], _∷_, _++_}
 use native.Mathlib.Omega.{arith}
-use lib.IntN.{ℤ, natAbs}
-use lib.ListN.{length, getD, replicate}
-use Rattle.definitions.specs.Words.{part}
-use Rattle.definitions.specs.Layout.{Bytes, parts}
-use Rattle.definitions.specs.Refusals.{yearLimit, partLimit}
+use lib.IntN.{ℤ}
+use lib.ListN.{length, replicate}
+use Rattle.definitions.specs.Layout.{Bytes}
+use Rattle.definitions.specs.Refusals.{yearLimit}
 use Rattle.definitions.specs.Matrix.{Part, partOf}
 use Rattle.definitions.specs.Text.{space, lineFeed, moreDigits, decimal, signedDecimal, aligned, nameOf, indexOf}
 use Rattle.definitions.specs.Page.{pageLine, pageLength}

@@ -1,5 +1,4 @@
 // The parts of a mean by name and index: phi 0 to J, then psi 0 to J − 1.
-ghost use Prim.Native.Nat.{_≤_};
 ghost use mathlib.Core.Path.{_≡_};
 ghost use Rattle.definitions.specs.Matrix.{partOf};
 ghost use Rattle.definitions.specs.Text.{nameOf, indexOf};

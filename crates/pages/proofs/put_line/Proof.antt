@@ -1,14 +1,13 @@
 -- A line: the name, the numbers with a space before each, and the end of the line, one behind the other.
 use Prim.Native.Nat.{ℕ, _≤_}
-use mathlib.Core.Path.{_≡_, refl, sym, ap, ap₂, subst, _∙_}
+use mathlib.Core.Path.{_≡_, refl, sym, subst, _∙_}
 use mathlib.Core.List.{List, [], _∷_, _++_}
 use native.Mathlib.Omega.{arith}
 use borrow.Author.Needs.{needs}
 use lib.IntN.{ℤ}
 use lib.ListN.{length}
 use mir.Facts.{toZ-ofZ}
-use Rattle.definitions.specs.Matrix.{partOf}
-use Rattle.definitions.specs.Text.{lineFeed, decimal, signedDecimal, aligned, nameOf, indexOf}
+use Rattle.definitions.specs.Text.{lineFeed, decimal, signedDecimal, aligned}
 use Rattle.text.specs.Added.{both, in-words}
 use Rattle.pages.specs.Pages.{index-fits, mean-fits, own-fits, line-put}
 use Rattle.pages.proofs.put_line.Statement.{statement}

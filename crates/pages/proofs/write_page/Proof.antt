@@ -1,10 +1,9 @@
 -- The lines of the page, one behind the other. The invariant: the buffer is as long as it was, and the lines of the parts passed stand
 -- at its front.
-use Prim.Native.Nat.{ℕ, _*_, _-_, _≤_, _<_}
+use Prim.Native.Nat.{ℕ, _-_, _≤_, _<_}
 use mathlib.Core.Path.{_≡_, refl, sym, ap, subst, _∙_}
 use mathlib.Core.List.{List, _++_}
 use native.Mathlib.Omega.{arith}
-use borrow.Author.Needs.{needs}
 use denote.Ref.{now}
 use lib.IntN.{ℤ}
 use lib.ListN.{length, drop, getD}
@@ -13,7 +12,7 @@ use Rattle.definitions.specs.Words.{part}
 use Rattle.definitions.specs.Layout.{parts}
 use Rattle.definitions.specs.Matrix.{partOf}
 use Rattle.definitions.specs.Text.{lines}
-use Rattle.definitions.specs.Page.{pageLine, pageOf, pageLength}
+use Rattle.definitions.specs.Page.{pageLine, pageOf}
 use Rattle.laws.specs.Lines.{lines-next}
 use Rattle.laws.specs.Pages.{InColumns, PageInColumns, in-columns, page-fits}
 use Rattle.text.specs.Added.{Added, both, in-words, nothing, whole}

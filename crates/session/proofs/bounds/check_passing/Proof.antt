@@ -1,8 +1,7 @@
 -- `bounds::check_passing` meets its contract: 21, then 24, and a session that neither refuses has a mean that passes.
-use mathlib.Core.Path.{_≡_, refl, sym, ap, ap₂, _∙_}
+use mathlib.Core.Path.{_≡_, sym, _∙_}
 use borrow.Author.Needs.{needs}
 use denote.Ref.{now}
-use native.Mathlib.Omega.{arith}
 use Rattle.definitions.specs.Words.{part}
 use Rattle.definitions.specs.Matrix.{passes}
 use Rattle.chain.specs.Arrays.{figuresOf, meanOf}

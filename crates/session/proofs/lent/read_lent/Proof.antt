@@ -1,5 +1,5 @@
 -- `lent::read_lent` meets its contract: after 21, 24 and 13 the record of the mean that is held is written.
-use mathlib.Core.Path.{_≡_, sym, ap, ap₂, subst, _∙_}
+use mathlib.Core.Path.{_≡_, sym, ap, subst, _∙_}
 use mathlib.Core.Bool.{true}
 use mathlib.Core.List.{_++_}
 use native.Mathlib.Omega.{arith}
