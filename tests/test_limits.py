@@ -21,7 +21,6 @@ SPECIFICATION = (ROOT / "docs" / "SPECIFICATION.md").read_text()
 HEADER = (ROOT / "include" / "desk.h").read_text()
 SPECS = ROOT / "crates" / "definitions" / "specs"
 DEFINITIONS = "".join((SPECS / f"{name}.antt").read_text() for name in ("Logarithm", "Refusals", "Sweep", "Machine", "Guarantee"))
-
 PAGE, LAYOUT = ((SPECS / f"{name}.antt").read_text() for name in ("Page", "Layout"))
 
 # Where the definitions write the numbers that a refusal's words repeat, in the order of the words.
@@ -162,8 +161,8 @@ class Limits(unittest.TestCase):
         for j in range(1, last + 1):
             self.assertEqual([page.page_length(j), package_layout.page_length(j)], [page_length(j)] * 2)
         line = page_length(0)  # which would be one
-        said = f"a line has {line} bytes, a page has {line}(2J+1) bytes, and the longest, J = {last}, has {page_length(last)} "
-        self.assertIn(said, " ".join(SPECIFICATION.split()).replace("A line", "a line"))
+        said = f"A line has {line} bytes, a page has {line}(2J+1) bytes, and the longest, J = {last}, has {page_length(last)} "
+        self.assertIn(said, " ".join(SPECIFICATION.split()))
         self.assertIn(f"/* a page has {line}(2J+1) bytes */", HEADER)
 
     def test_of_the_package(self) -> None:

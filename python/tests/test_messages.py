@@ -3,8 +3,7 @@
 import unittest
 from collections.abc import Callable
 
-from refusing import RECORD_OF_F as RECORD
-from refusing import F, opened, refusal_of
+from refusing import RECORD_OF_F, F, opened, refusal_of
 
 import damage
 import layout
@@ -80,8 +79,8 @@ class OfOtherArguments(unittest.TestCase):
         desk = opened()
         for record, said in (
             (b"123", f"refused 1 at 0: {LENGTH} (the mean record has 3 bytes, and its header alone has 5)"),
-            (RECORD[:-1], f"refused 1 at 0: {LENGTH} (the length field says 17 bytes, and the mean record has 16 bytes)"),
-            (damage.put(RECORD, 4, 7, 1), "refused 2 at 4: the version of the format must be 1 (the version is 7; allowed is 1)"),
+            (RECORD_OF_F[:-1], f"refused 1 at 0: {LENGTH} (the length field says 17 bytes, and the mean record has 16 bytes)"),
+            (damage.put(RECORD_OF_F, 4, 7, 1), "refused 2 at 4: the version of the format must be 1 (the version is 7; allowed is 1)"),
             (
                 build_record((0,) * 5),
                 "refused 4 at 0: the length does not suit the number of development years "
