@@ -98,8 +98,8 @@ typedef struct desk_system {
     int64_t right_hand[31];
 } desk_system;
 
-/* How many numbers each array of a session holds, and how many bytes the longest file and the longest mean record have. It has the
- * same fields in every version with this first number: a program of an older header would have a longer one written behind its own. */
+/* How many numbers each array of a session holds, and how many bytes the longest file and the longest mean record have. Its fields
+ * stay while the version's first number does: a longer struct would be written behind that of a program with an older header. */
 typedef struct desk_counts {
     uint64_t held;
     uint64_t own;

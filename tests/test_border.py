@@ -149,7 +149,7 @@ class Border(unittest.TestCase):
         self.assertEqual(fields, lent)
 
     def test_the_sizes_of_version_1(self) -> None:
-        """A program of an older header with this first number would have a longer answer written behind its own."""
+        """They stay: a longer answer would be written behind that of a program with an older header of this first number."""
         self.assertIn("#define DESK_VERSION_MAJOR 1\n", HEADER)
         names = ("held", "own", "matrix", "right_hand", "mean", "longest_file", "longest_record")
         self.assertEqual(calls_of_the_header()["desk_sizes"][1], [f"{name} u64" for name in names])

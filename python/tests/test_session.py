@@ -94,10 +94,9 @@ class Lent(unittest.TestCase):
         desk = opened()
         for write, written in WRITING:
             buffer = bytearray()
-            with self.assertRaises(Refused) as caught:
-                write(desk, buffer)
-            self.assertEqual(caught.exception.number, 13)
+            refused = refusal_of(lambda: write(desk, buffer))  # unlike assertRaises it keeps the frames
             buffer.extend(bytes(len(written)))  # while the refusal, and what it holds on to, is there
+            self.assertEqual(refused.number, 13)
             write(desk, buffer)
             self.assertEqual(buffer, written)
 
