@@ -33,9 +33,12 @@ unfoldable pub decimalFrom : ℕ → ℕ → Bytes
 decimalFrom zero n = digit n ∷ []
 decimalFrom (suc more) n = cond (ltb n 10) (digit n ∷ []) (decimalFrom more (n / 10) ++ digit (n % 10) ∷ [])
 
--- below 2^64 there are at most 20
+-- below 2^64 there are at most 20 digits: one, and so many more
+abbrev pub moreDigits : ℕ
+moreDigits = 19
+
 abbrev pub decimal : ℕ → Bytes
-decimal n = decimalFrom 19 n
+decimal n = decimalFrom moreDigits n
 
 unfoldable pub signedDecimal : ℤ → Bytes
 signedDecimal (pos n) = decimal n

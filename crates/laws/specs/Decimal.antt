@@ -12,7 +12,7 @@ use lib.Dec.{ltb, eqb}
 use lib.IntN.{ℤ, pos, negsuc, natAbs, negℤ}
 use lib.ListN.{length, replicate, length-append, length-replicate}
 use Rattle.definitions.specs.Layout.{Bytes}
-use Rattle.definitions.specs.Text.{space, minus, digit, decimalFrom, decimal, signedDecimal, aligned}
+use Rattle.definitions.specs.Text.{space, minus, digit, decimalFrom, moreDigits, decimal, signedDecimal, aligned}
 
 -- ---- reading a number
 
@@ -120,17 +120,17 @@ digits-read (x ∷ xs) d =
 
 -- ---- a number in its columns
 
-signed-read : (z : ℤ) → natAbs z < 10 ^ 20 → readNumber (signedDecimal z) ≡ z
+signed-read : (z : ℤ) → natAbs z < 10 ^ suc moreDigits → readNumber (signedDecimal z) ≡ z
 unfolding signedDecimal readNumber
-signed-read (pos n) h = digits-read (decimal n) (decimal-digits 19 n) ∙ ap pos (decimal-spelt 19 n h)
-signed-read (negsuc n) h = ap (λ m. negℤ (pos m)) (decimal-spelt 19 (suc n) h)
+signed-read (pos n) h = digits-read (decimal n) (decimal-digits moreDigits n) ∙ ap pos (decimal-spelt moreDigits n h)
+signed-read (negsuc n) h = ap (λ m. negℤ (pos m)) (decimal-spelt moreDigits (suc n) h)
 
 spaces-read : (n : ℕ) (t : Bytes) → readNumber (replicate n space ++ t) ≡ readNumber t
 unfolding readNumber
 spaces-read zero t = refl
 spaces-read (suc n) t = spaces-read n t
 
-pub aligned-read : (columns : ℕ) (z : ℤ) → natAbs z < 10 ^ 20 → readNumber (aligned columns (signedDecimal z)) ≡ z
+pub aligned-read : (columns : ℕ) (z : ℤ) → natAbs z < 10 ^ suc moreDigits → readNumber (aligned columns (signedDecimal z)) ≡ z
 unfolding aligned
 aligned-read columns z h = spaces-read (columns - length (signedDecimal z)) (signedDecimal z) ∙ signed-read z h
 
@@ -155,8 +155,8 @@ from-less less (x ∷ xs) h = (omega (arith, less, h .0), from-less less xs (h .
 
 signed-from : (z : ℤ) → From space (signedDecimal z)
 unfolding signedDecimal From
-signed-from (pos n) = from-less (omega arith) (decimal n) (decimal-digits 19 n .bytes)
-signed-from (negsuc n) = (omega arith, from-less (omega arith) (decimal (suc n)) (decimal-digits 19 (suc n) .bytes))
+signed-from (pos n) = from-less (omega arith) (decimal n) (decimal-digits moreDigits n .bytes)
+signed-from (negsuc n) = (omega arith, from-less (omega arith) (decimal (suc n)) (decimal-digits moreDigits (suc n) .bytes))
 
 pub aligned-from : (columns : ℕ) (z : ℤ) → From space (aligned columns (signedDecimal z))
 unfolding aligned
@@ -167,5 +167,5 @@ aligned-from columns z =
 -- how many bytes a sign and digits have
 pub signed-length : (w : ℕ) (z : ℤ) → natAbs z < 10 ^ suc w → length (signedDecimal z) ≤ suc (suc w)
 unfolding signedDecimal
-signed-length w (pos n) h = omega (arith, decimal-length w 19 n h)
-signed-length w (negsuc n) h = omega (arith, decimal-length w 19 (suc n) h)
+signed-length w (pos n) h = omega (arith, decimal-length w moreDigits n h)
+signed-length w (negsuc n) h = omega (arith, decimal-length w moreDigits (suc n) h)

@@ -13,7 +13,7 @@ use Rattle.definitions.specs.Layout.{Bytes, lastYear, parts}
 use Rattle.definitions.specs.Refusals.{yearLimit, partLimit}
 use Rattle.definitions.specs.Observations.{chainOf}
 use Rattle.definitions.specs.Matrix.{Part, Φ, Ψ, partOf, own, figuresOf}
-use Rattle.definitions.specs.Text.{ascii, space, lineFeed, decimalFrom, decimal, signedDecimal, aligned, nameOf, indexOf, lines}
+use Rattle.definitions.specs.Text.{ascii, space, lineFeed, decimalFrom, moreDigits, decimal, signedDecimal, aligned, nameOf, indexOf, lines}
 use Rattle.definitions.specs.Page.{pageLine, pageOf, pageLength}
 use Rattle.definitions.specs.Machine.{accepted}
 use Rattle.definitions.specs.Guarantee.{InsideLimits}
@@ -118,13 +118,13 @@ pub record InColumns (p : Part) (mean : ℤ) (own : ℕ) : Type 0 where
   pub own-to : own < 10 ^ 10
 
 two-columns : (n : ℕ) → n < 100 → length (aligned 2 (decimal n)) ≡ 2
-two-columns n h = aligned-length 2 (decimal n) (decimal-length 1 19 n (omega (arith, h)))
+two-columns n h = aligned-length 2 (decimal n) (decimal-length 1 moreDigits n (omega (arith, h)))
 
 nine-columns : (z : ℤ) → natAbs z ≤ partLimit → length (aligned 9 (signedDecimal z)) ≡ 9
 nine-columns z h = aligned-length 9 (signedDecimal z) (signed-length 7 z (omega (arith, h)))
 
 ten-columns : (n : ℕ) → n < 10 ^ 10 → length (aligned 10 (decimal n)) ≡ 10
-ten-columns n h = aligned-length 10 (decimal n) (decimal-length 9 19 n h)
+ten-columns n h = aligned-length 10 (decimal n) (decimal-length 9 moreDigits n h)
 
 three-columns : (p : Part) → length (nameOf p) ≡ 3
 unfolding nameOf ascii tabFrom
@@ -139,9 +139,9 @@ line-fits {p} {mean} {own} h =
     let B = aligned 9 (signedDecimal mean) in
     let C = aligned 10 (decimal own) in
     let three = three-columns p in
-    let two = two-columns (indexOf p) (h .index-to) in
-    let nine = nine-columns mean (h .mean-to) in
-    let ten = ten-columns own (h .own-to) in
+    let two = two-columns (indexOf p) (omega (arith, h .index-to)) in
+    let nine = nine-columns mean (omega (arith, h .mean-to)) in
+    let ten = ten-columns own (omega (arith, h .own-to)) in
     let index = index-at name A B C three two nine in
     let ticks = mean-at name A B C three two nine in
     let weight = weight-at name A B C three two nine ten in

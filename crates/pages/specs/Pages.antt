@@ -9,7 +9,7 @@ use Rattle.definitions.specs.Words.{part}
 use Rattle.definitions.specs.Layout.{Bytes, parts}
 use Rattle.definitions.specs.Refusals.{yearLimit, partLimit}
 use Rattle.definitions.specs.Matrix.{Part, partOf}
-use Rattle.definitions.specs.Text.{space, lineFeed, decimal, signedDecimal, aligned, nameOf, indexOf}
+use Rattle.definitions.specs.Text.{space, lineFeed, moreDigits, decimal, signedDecimal, aligned, nameOf, indexOf}
 use Rattle.definitions.specs.Page.{pageLine, pageLength}
 use Rattle.laws.specs.Decimal.{decimal-length, signed-length}
 use Rattle.laws.specs.Pages.{PageInColumns, InColumns}
@@ -31,13 +31,13 @@ spaced columns text fits =
 
 module _ {p : Part} {mean : ℤ} {own : ℕ} (h : InColumns p mean own) where
   pub index-fits : length (decimal (indexOf p)) ≤ 2
-  index-fits = decimal-length 1 19 (indexOf p) (omega (arith, h .index-to))
+  index-fits = decimal-length 1 moreDigits (indexOf p) (omega (arith, h .index-to))
 
   pub mean-fits : length (signedDecimal mean) ≤ 9
   mean-fits = signed-length 7 mean (omega (arith, h .mean-to))
 
   pub own-fits : length (decimal own) ≤ 10
-  own-fits = decimal-length 9 19 own (h .own-to)
+  own-fits = decimal-length 9 moreDigits own (h .own-to)
 
   -- the line as it is put
   pub line-put :

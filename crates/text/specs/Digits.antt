@@ -6,7 +6,7 @@ use native.Mathlib.Nat.{pow-suc, zero-add, suc-add}
 use native.Mathlib.Omega.{arith}
 use lib.ListN.{length, drop, set, replicate, length-replicate}
 use lib.Seq.{set-at, drop-at}
-use Rattle.definitions.specs.Text.{space, minus, digit, decimalFrom, decimal, aligned}
+use Rattle.definitions.specs.Text.{space, minus, digit, decimalFrom, moreDigits, decimal, aligned}
 use Rattle.laws.specs.Decimal.{decimal-last, decimal-more, decimal-length, aligned-length}
 use Rattle.text.specs.declared.digits.Digits.{Digits}
 
@@ -98,7 +98,7 @@ signed-spelt {text} bytes (suc from) s some =
 
 -- the size of a 64-bit number has at most 19 digits, so that there is room for a sign
 pub room-for-sign : (n : ℕ) {d : Digits} → n ≤ 2 ^ 63 → Spelt (decimal n) d → 1 ≤ d .from
-room-for-sign n small s = omega (arith, s .from, decimal-length 18 19 n (omega (arith, small)))
+room-for-sign n small s = omega (arith, s .from, decimal-length 18 moreDigits n (omega (arith, small)))
 
 -- the end of the bytes from where the text begins is the text
 pub spelt-end : {text : List ℕ} {d : Digits} → Spelt text d → drop (d .from) (d .bytes) ≡ text
