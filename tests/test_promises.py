@@ -25,8 +25,10 @@ STARRED = {
     "part-1-passes-with-e-2",
 }
 
-# Those of document 02's page, and the listing beside it.
-OF_THE_PAGE = {"F-page", "F-board-page", "F-listing"}
+# Those of document 02's page and of its call, and the listing beside them.
+OF_THE_PAGE = {
+    "F-page", "F-page-closed", "F-page-failing", "F-page-short", "F-page-written", "F-page-behind", "F-board-page", "F-listing",
+}
 
 
 class Promises(unittest.TestCase):
