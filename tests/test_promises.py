@@ -8,11 +8,13 @@ from declared import text_of
 
 # The record that the contract of each function at the border must be, or what its equation must be with.
 CONTRACTS = {
-    "open": "Opens", "judge": "Judges", "sweep": "Sweeps", "read": "Reads", "figures": "Shows", "close": "stateOf", "empty": "stateOf",
-    "open_lent": "Opens", "judge_lent": "Judges", "sweep_lent": "Sweeps", "read_lent": "Reads", "figures_lent": "Shows",
-    "row": "rowPart", "row_told": "rowCheck",
+    "open": "Opens", "judge": "Judges", "sweep": "Sweeps", "read": "Reads", "page": "Pages", "figures": "Shows", "close": "stateOf",
+    "empty": "stateOf",
+    "open_lent": "Opens", "judge_lent": "Judges", "sweep_lent": "Sweeps", "read_lent": "Reads", "page_lent": "Pages",
+    "figures_lent": "Shows", "row": "rowPart", "row_told": "rowCheck",
     "desk_open_lent": "Opens", "desk_judge_lent": "Judges", "desk_sweep_lent": "Sweeps", "desk_read_lent": "Reads",
-    "desk_figures_lent": "Shows", "desk_close_lent": "Closes", "desk_row": "ShowsRow", "desk_sizes": "recordLength",
+    "desk_page_lent": "Pages", "desk_figures_lent": "Shows", "desk_close_lent": "Closes", "desk_row": "ShowsRow",
+    "desk_sizes": "recordLength",
     "list": "listing",
 }
 
@@ -23,6 +25,11 @@ STARRED = {
     "part-1-passes-with-e-2",
 }
 
+# Those of document 02's page and of its call, and the listing beside them.
+OF_THE_PAGE = {
+    "F-page", "F-page-closed", "F-page-failing", "F-page-short", "F-page-written", "F-page-behind", "F-board-page", "F-listing",
+}
+
 
 class Promises(unittest.TestCase):
     def test_contracts_at_the_border(self) -> None:
@@ -31,9 +38,9 @@ class Promises(unittest.TestCase):
             _, clauses = contract(function)
             self.assertRegex(clauses, rf"(?s)ensures .*\b{CONTRACTS[function[1]]}\b", function)
 
-    def test_starred_cases(self) -> None:
+    def test_cases_of_the_joint_table(self) -> None:
         table = text_of("crates/definitions/specs/JointTable.antt").split("pub record JointTable")[1].split("pub jointTable")[0]
-        self.assertEqual(set(re.findall(r"^  pub (\S+) :", table, re.MULTILINE)), STARRED)
+        self.assertEqual(set(re.findall(r"^  pub (\S+) :", table, re.MULTILINE)), STARRED | OF_THE_PAGE)
 
     def test_every_call_is_in_the_specification(self) -> None:
         for module in ("calls", "state"):
@@ -54,6 +61,9 @@ class Promises(unittest.TestCase):
             self.assertRegex(text_of("test"), rf"(?m)^ *(?:if .*; then )?{re.escape(command)}")
         for step in ("replay", "list", "write"):
             self.assertIn(f'\n{step}\n{step} "${{watched[@]}}"\n', text_of("tests/c/run"))
+        for step in ("desk_test", "spoiled_test"):
+            self.assertRegex(text_of("tests/c/run"), rf'(?m)^\w+=\$\("\$built/{step}"')
+            self.assertIn(f'\n"${{watched[@]}}" "$built/{step}"', text_of("tests/c/run"))
         for step in ("header_test_c", "header_test_cpp"):
             self.assertIn(f'\n"$built/{step}"\n', text_of("tests/c/run"))
 
