@@ -48,7 +48,8 @@ decimal-more more n large = ap (either more n) (le-ltb n 10 large)
 -- a fact of a number's digits: of one digit, where no more are needed or none is left; and of one digit more
 by-digits : (P : ℕ → ℕ → Bytes → Type 0)
     → ((more n : ℕ) → (n < 10 ^ suc more → n < 10) → P more n (digit n ∷ []))
-    → ((more n : ℕ) → 10 ≤ n → P more (n / 10) (decimalFrom more (n / 10)) → P (suc more) n (decimalFrom more (n / 10) ++ digit (n % 10) ∷ []))
+    → ((more n : ℕ) → 10 ≤ n → P more (n / 10) (decimalFrom more (n / 10))
+    → P (suc more) n (decimalFrom more (n / 10) ++ digit (n % 10) ∷ []))
     → (more n : ℕ) → P more n (decimalFrom more n)
 unfolding decimalFrom
 by-digits P one next zero n = one zero n (λ h. omega (arith, h))
@@ -62,7 +63,8 @@ by-digits P one next (suc more) n = by-size (decLt n 10) (by-digits P one next m
 
 -- as many as it needs
 pub decimal-length : (w more n : ℕ) → n < 10 ^ suc w → length (decimalFrom more n) ≤ suc w
-decimal-length w more n = by-digits (λ more n t. (w : ℕ) → n < 10 ^ suc w → length t ≤ suc w) (λ more n small w h. omega arith) next more n w
+decimal-length w more n =
+    by-digits (λ more n t. (w : ℕ) → n < 10 ^ suc w → length t ≤ suc w) (λ more n small w h. omega arith) next more n w
   where
     next : (more n : ℕ) → 10 ≤ n → ((w : ℕ) → n / 10 < 10 ^ suc w → length (decimalFrom more (n / 10)) ≤ suc w)
         → (w : ℕ) → n < 10 ^ suc w → length (decimalFrom more (n / 10) ++ digit (n % 10) ∷ []) ≤ suc w
@@ -106,10 +108,13 @@ pub record Digits (t : Bytes) : Type 0 where
 
 pub decimal-digits : (more n : ℕ) → Digits (decimalFrom more n)
 unfolding From
-decimal-digits = by-digits (λ more n t. Digits t) (λ more n small. record { some = omega arith; bytes = (omega arith, tt) }) (λ more n ten d. record {
-  some = omega (arith, length-append (decimalFrom more (n / 10)) (digit (n % 10) ∷ []));
-  bytes = from-append (digit 0) (decimalFrom more (n / 10)) (digit (n % 10) ∷ []) (d .bytes) (omega arith, tt);
-})
+decimal-digits = by-digits (λ more n t. Digits t) (λ more n small. record { some = omega arith; bytes = (omega arith, tt) }) next
+  where
+    next : (more n : ℕ) → 10 ≤ n → Digits (decimalFrom more (n / 10)) → Digits (decimalFrom more (n / 10) ++ digit (n % 10) ∷ [])
+    next more n ten d = record {
+      some = omega (arith, length-append (decimalFrom more (n / 10)) (digit (n % 10) ∷ []));
+      bytes = from-append (digit 0) (decimalFrom more (n / 10)) (digit (n % 10) ∷ []) (d .bytes) (omega arith, tt);
+    }
 
 digits-read : (t : Bytes) → Digits t → readNumber t ≡ pos (spelt 0 t)
 unfolding readNumber From

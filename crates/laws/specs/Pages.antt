@@ -239,7 +239,8 @@ page-line-ends p mean own =
     ended
 
 -- the mean is read back, however wide the own weight is
-ticks-back : (p : Part) (mean : ℤ) (own : ℕ) → indexOf p < 100 → natAbs mean ≤ partLimit → readNumber (columns 8 16 (pageLine p mean own)) ≡ mean
+ticks-back : (p : Part) (mean : ℤ) (own : ℕ) → indexOf p < 100 → natAbs mean ≤ partLimit
+    → readNumber (columns 8 16 (pageLine p mean own)) ≡ mean
 unfolding pageLine
 ticks-back p mean own index-to mean-to =
     ap readNumber (mean-at (nameOf p) (aligned 2 (decimal (indexOf p))) (aligned 9 (signedDecimal mean)) (aligned 10 (decimal own))

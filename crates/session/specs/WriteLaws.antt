@@ -42,7 +42,8 @@ module _ (size : ℕ → ℕ) (text : Text) (F : D.Figures) (μ : List ℤ) (tot
   unfolding writeCall
   written-passes = by-cases (passes F (part μ)) refl
     where
-      by-cases : (c : Bool) → passes F (part μ) ≡ c → tested c (ltb (length b) (size (F .last))) .answer ≡ written → passes F (part μ) ≡ true
+      by-cases : (c : Bool) → passes F (part μ) ≡ c → tested c (ltb (length b) (size (F .last))) .answer ≡ written
+          → passes F (part μ) ≡ true
       by-cases true e a = e
       by-cases false e a = absurd (refused-written a)
 
@@ -102,11 +103,13 @@ refuses-same : {n m p q : ℕ} → Refuses n p ≡ Refuses m q → (n ≡ m) × 
 refuses-same e = (cc, cc)
 
 -- one of the two refusals
-passing-refused : {s : Session} (number : ℕ) → ((size : ℕ → ℕ) (text : Text) (before : Bytes) → Writes size text s before (Refused number 0) before)
+passing-refused : {s : Session} (number : ℕ)
+    → ((size : ℕ → ℕ) (text : Text) (before : Bytes) → Writes size text s before (Refused number 0) before)
     → Passing s (Refuses number 0)
 passing-refused {s} number told = record {
   refused = λ n p e size text before.
-      let same = refuses-same e in subst (λ a. Writes size text s before a before) (ap₂ Refused (same .0) (same .1)) (told size text before);
+      let same = refuses-same e in
+      subst (λ a. Writes size text s before a before) (ap₂ Refused (same .0) (same .1)) (told size text before);
   fits = λ e. absurd (clear-refuses (sym e));
   passing = λ e. absurd (clear-refuses (sym e));
 }

@@ -70,7 +70,9 @@ pub nothing : (page : List ℕ) (at : ℕ) → at ≤ length page → Added page
 nothing page at on = record {
   counted = on-page at page on;
   from = omega arith;
-  front = sym (ap (take (length page)) (append-nil (take at page)) ∙ take-all (length page) (take at page) (omega (arith, length-take-le at page on)));
+  front =
+      sym (ap (take (length page)) (append-nil (take at page))
+      ∙ take-all (length page) (take at page) (omega (arith, length-take-le at page on)));
   behind = refl;
 }
 

@@ -45,7 +45,13 @@ pub record Spelling (n : ℕ) (bytes : List ℕ) (at rest : ℕ) : Type 0 where
   pub digits : decimalFrom at rest ++ written ≡ decimal n
 
 pub spelling-starts : (n : ℕ) → n < 2 ^ 64 → Spelling n (replicate 20 space) 19 n
-spelling-starts n h = record { written = []; are = sym (append-nil (replicate 20 space)); long = refl; small = omega (arith, h); digits = append-nil (decimal n) }
+spelling-starts n h = record {
+  written = [];
+  are = sym (append-nil (replicate 20 space));
+  long = refl;
+  small = omega (arith, h);
+  digits = append-nil (decimal n);
+}
 
 -- while the number has more than one digit, a place is left for the next
 pub places-left : {n : ℕ} {bytes : List ℕ} (at rest : ℕ) → Spelling n bytes at rest → 9 < rest → 1 ≤ at

@@ -78,10 +78,11 @@ loop-again c =
     let l = c .before .before .before .before .before .before .before .loop in
     let line = c .before .before .put-line in
     let below : l .k < parts (start .args .last) = c .before .before .before .before .before .before .loop-test .taken in
-    let ticks = stored-ticks _ _ _ (start .pre .fits) (l .k) below in (
+    let ticks = stored-ticks _ _ _ (start .pre .fits) (l .k) below in
+    let same = ap (λ z. pageLine (partOf (start .args .last) (l .k)) z (getD (now (start .args .own)) (l .k) 0)) ticks in (
       line .kept .0 ∙ l .inv .0,
       omega arith,
-      in-words (lines-next _ (l .k)) (both (l .inv .2) (l .inv .0) (in-words (ap (λ z. pageLine (partOf (start .args .last) (l .k)) z (getD (now (start .args .own)) (l .k) 0)) ticks) (line .ensures))),
+      in-words (lines-next _ (l .k)) (both (l .inv .2) (l .inv .0) (in-words same (line .ensures))),
     )
 
 same-length : tie.Need-same-length Inv-loop μ-loop
