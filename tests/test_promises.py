@@ -15,7 +15,7 @@ CONTRACTS = {
     "desk_open_lent": "Opens", "desk_judge_lent": "Judges", "desk_sweep_lent": "Sweeps", "desk_read_lent": "Reads",
     "desk_page_lent": "Pages", "desk_figures_lent": "Shows", "desk_close_lent": "Closes", "desk_row": "ShowsRow",
     "desk_sizes": "recordLength",
-    "list": "listing",
+    "list": "listing", "board": "boardPage",
 }
 
 # The examples that document 01 marks with a star ("Figures to agree on").

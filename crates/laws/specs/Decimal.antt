@@ -173,3 +173,8 @@ pub signed-length : (w : ℕ) (z : ℤ) → natAbs z < 10 ^ suc w → length (si
 unfolding signedDecimal
 signed-length w (pos n) h = omega (arith, decimal-length w moreDigits n h)
 signed-length w (negsuc n) h = omega (arith, decimal-length w moreDigits (suc n) h)
+
+pub signed-most : (z : ℤ) → length (signedDecimal z) ≤ suc (suc moreDigits)
+unfolding signedDecimal
+signed-most (pos n) = omega (arith, decimal-most moreDigits n)
+signed-most (negsuc n) = omega (arith, decimal-most moreDigits (suc n))

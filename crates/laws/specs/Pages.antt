@@ -126,7 +126,7 @@ nine-columns z h = aligned-length 9 (signedDecimal z) (signed-length 7 z (omega 
 ten-columns : (n : ℕ) → n < 10 ^ 10 → length (aligned 10 (decimal n)) ≡ 10
 ten-columns n h = aligned-length 10 (decimal n) (decimal-length 9 moreDigits n h)
 
-three-columns : (p : Part) → length (nameOf p) ≡ 3
+pub three-columns : (p : Part) → length (nameOf p) ≡ 3
 unfolding nameOf ascii tabFrom
 three-columns (Φ j) = refl
 three-columns (Ψ j) = refl
