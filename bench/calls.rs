@@ -63,6 +63,9 @@ extern "C" {
     fn desk_read_lent(
         held: &[u64; 3], own: &Weights, matrix: &Matrix, right_hand: &Vector, mean: &Vector, buffer: *mut u8, length: usize,
     ) -> Refusal;
+    fn desk_page_lent(
+        held: &[u64; 3], own: &Weights, matrix: &Matrix, right_hand: &Vector, mean: &Vector, buffer: *mut u8, length: usize,
+    ) -> Refusal;
     fn desk_figures_lent(held: &[u64; 3], own: &Weights, matrix: &Matrix, right_hand: &Vector, mean: &Vector) -> System;
     fn desk_close_lent(held: &mut [u64; 3]);
 }
@@ -71,6 +74,7 @@ const ROUND_NANOSECONDS: f64 = 1e7; // of one call, over and over
 const LISTINGS: u32 = 100; // runs of a listing program in a round
 
 const LONGEST_RECORD: usize = 129;
+const LONGEST_PAGE: usize = 868;
 const DONE: Refusal = Refusal { number: 0, place: 0 };
 
 impl Held {
@@ -94,6 +98,10 @@ impl Held {
         // SAFETY: as above; the buffer is a slice apart.
         unsafe { desk_read_lent(&self.held, &self.own, &self.matrix, &self.right_hand, &self.mean, buffer.as_mut_ptr(), buffer.len()) }
     }
+    fn page(&self, buffer: &mut [u8]) -> Refusal {
+        // SAFETY: as above.
+        unsafe { desk_page_lent(&self.held, &self.own, &self.matrix, &self.right_hand, &self.mean, buffer.as_mut_ptr(), buffer.len()) }
+    }
     fn figures(&self) -> System {
         // SAFETY: the arrays are five different fields.
         unsafe { desk_figures_lent(&self.held, &self.own, &self.matrix, &self.right_hand, &self.mean) }
@@ -104,7 +112,7 @@ impl Held {
     }
 }
 
-const CALLS: [&str; 6] = ["open", "judge", "one sweep", "sweep until settled", "read", "figures"];
+const CALLS: [&str; 7] = ["open", "judge", "one sweep", "sweep until settled", "read", "page", "figures"];
 
 /// What is timed of either desk; an answer is asserted, not used.
 trait Desk {
@@ -113,6 +121,7 @@ trait Desk {
     fn judge_passes(&self, record: &[u8]);
     fn sweep_from(&mut self, start: &Start, n: u64) -> u64;
     fn read_into(&self, buffer: &mut [u8]);
+    fn page_into(&self, buffer: &mut [u8]);
     fn show_figures(&self);
     fn figures_shown(&self) -> Figures;
     fn start(&self) -> Start;
@@ -141,6 +150,9 @@ impl Desk for Held {
     }
     fn read_into(&self, buffer: &mut [u8]) {
         assert_eq!(self.read(buffer), DONE);
+    }
+    fn page_into(&self, buffer: &mut [u8]) {
+        assert_eq!(self.page(buffer), DONE);
     }
     fn show_figures(&self) {
         assert_eq!(black_box(&self.figures()).refusal, DONE);
@@ -177,6 +189,9 @@ impl Desk for Session {
     fn read_into(&self, buffer: &mut [u8]) {
         assert!(self.read(buffer).is_ok());
     }
+    fn page_into(&self, buffer: &mut [u8]) {
+        assert!(self.page(buffer).is_ok());
+    }
     fn show_figures(&self) {
         assert!(black_box(&self.figures()).is_ok());
     }
@@ -208,12 +223,13 @@ impl<D: Desk> Ready<D> {
     }
 
     fn run(&mut self, call: &str, file: &[u8], record: &[u8], times: u64) {
-        let mut buffer = [0; LONGEST_RECORD];
+        let mut buffer = [0; LONGEST_PAGE];
         for _ in 0..times {
             match call {
                 "open" => self.desk.open_anew(black_box(file)),
                 "judge" => self.desk.judge_passes(black_box(record)),
                 "read" => self.settled.read_into(black_box(&mut buffer)),
+                "page" => self.settled.page_into(black_box(&mut buffer)),
                 "figures" => black_box(&self.desk).show_figures(),
                 "one sweep" => drop(black_box(self.desk.sweep_from(&self.start, black_box(1)))),
                 _ => drop(black_box(self.desk.sweep_from(&self.start, black_box(4096)))),
@@ -240,6 +256,10 @@ impl Pair {
         proved.settled.read_into(&mut record);
         plain.settled.read_into(&mut other);
         assert_eq!(record, other);
+        let (mut page, mut other) = (vec![0; LONGEST_PAGE], vec![0; LONGEST_PAGE]);
+        proved.settled.page_into(&mut page);
+        plain.settled.page_into(&mut other);
+        assert_eq!(page, other);
         record.truncate(5 + 4 * (2 * usize::from(file[5]) + 1));
         proved.desk.judge_passes(&record);
         plain.desk.judge_passes(&record);

@@ -3,7 +3,10 @@
 #![forbid(unsafe_code)]
 #![allow(dead_code)] // each of the two programs over it uses a part
 
+use std::io::Write;
+
 pub const PARTS: usize = 31;
+const PAGE_LINE: usize = 28;
 const TICKS: i64 = 1 << 20;
 const PART_LIMIT: i64 = 1 << 26;
 const SWEEP_LIMIT: u64 = 4096;
@@ -312,22 +315,36 @@ impl Session {
         Ok(Sweeping::Going(self.total))
     }
 
-    #[inline(never)]
-    pub fn read(&self, buffer: &mut [u8]) -> Result<usize, Refusal> {
+    /// Of a call that writes so many bytes of a mean that passes.
+    fn room(&self, buffer: &[u8], length: usize) -> Result<(), Refusal> {
         if self.last == 0 {
             return refuse(21, 0);
         }
         if self.test(&self.residues(&self.mean)) != Judgement::Passed {
             return refuse(24, 0);
         }
+        if buffer.len() < length { refuse(13, 0) } else { Ok(()) }
+    }
+
+    #[inline(never)]
+    pub fn read(&self, buffer: &mut [u8]) -> Result<usize, Refusal> {
         let length = 5 + 4 * self.parts();
-        if buffer.len() < length {
-            return refuse(13, 0);
-        }
+        self.room(buffer, length)?;
         buffer[..4].copy_from_slice(&(length as u32).to_be_bytes());
         buffer[4] = 1;
         for k in 0..self.parts() {
             buffer[5 + 4 * k..9 + 4 * k].copy_from_slice(&(self.mean[k] as i32).to_be_bytes());
+        }
+        Ok(length)
+    }
+
+    #[inline(never)]
+    pub fn page(&self, buffer: &mut [u8]) -> Result<usize, Refusal> {
+        let length = PAGE_LINE * self.parts();
+        self.room(buffer, length)?;
+        for (k, mut line) in buffer[..length].chunks_exact_mut(PAGE_LINE).enumerate() {
+            let (name, index) = if k <= self.last { ("phi", k) } else { ("psi", k - self.last - 1) };
+            writeln!(line, "{name} {index:>2} {:>9} {:>10}", self.mean[k], self.own[k]).expect("every number fits its columns");
         }
         Ok(length)
     }

@@ -4,8 +4,8 @@
  *     desk_refusal refusal = desk_open(&session, file, length);
  *     if (refusal.number != 0) printf("%s, at byte %u\n", desk_refusal_text(refusal.number), (unsigned)refusal.place);
  *
- * docs/SPECIFICATION.md says what each call does: "The file" and "The mean record" have the bytes, "The calls" the answers,
- * "Refusals" the numbers with their places, and "What is guaranteed" what an answer is worth.
+ * docs/SPECIFICATION.md says what each call does: "The file", "The mean record" and "The page" have the bytes, "The calls" the
+ * answers, "Refusals" the numbers with their places, and "What is guaranteed" what an answer is worth.
  *
  * A call does its job or is refused, whatever bytes it is lent and whatever stands in the session. A refused call changes
  * neither the session nor the buffer. The order in which a call tests the numbers is that of its comment below. The library
@@ -28,9 +28,9 @@
 extern "C" {
 #endif
 
-#define DESK_VERSION "1.1.0"
+#define DESK_VERSION "1.2.0"
 #define DESK_VERSION_MAJOR 1
-#define DESK_VERSION_MINOR 1
+#define DESK_VERSION_MINOR 2
 #define DESK_VERSION_PATCH 0
 
 #define DESK_PAID UINT64_C(0) /* the channels of a row */
@@ -38,6 +38,7 @@ extern "C" {
 #define DESK_MOST_SWEEPS UINT64_C(4096) /* for one open file */
 #define DESK_LONGEST_FILE 2806u         /* a file has 10 + 20(2J+1) + 8(J+1)(J+2) bytes */
 #define DESK_LONGEST_RECORD 129u        /* a mean record has 5 + 4(2J+1) bytes */
+#define DESK_LONGEST_PAGE 868u          /* a page has 28(2J+1) bytes */
 
 /* A session, of some 8 KB: empty, or an accepted file's figures with a mean and the sweeps run. The fields are the library's; a
  * session may be copied, and the copy is a session of its own. Bytes that no call has left there count as an empty session or
@@ -97,7 +98,8 @@ typedef struct desk_system {
     int64_t right_hand[31];
 } desk_system;
 
-/* How many numbers each array of a session holds, and how many bytes the longest file and the longest mean record have. */
+/* How many numbers each array of a session holds, and how many bytes the longest file and the longest mean record have. Its fields
+ * stay while the version's first number does: a longer struct would be written behind that of a program with an older header. */
 typedef struct desk_counts {
     uint64_t held;
     uint64_t own;
@@ -116,6 +118,8 @@ desk_judgement desk_judge_lent(const uint64_t held[3], const uint64_t own[31], c
 desk_sweeping desk_sweep_lent(uint64_t held[3], const uint64_t own[31], const int64_t matrix[961], const int64_t right_hand[31],
                               int64_t mean[31], uint64_t n);
 desk_refusal desk_read_lent(const uint64_t held[3], const uint64_t own[31], const int64_t matrix[961],
+                            const int64_t right_hand[31], const int64_t mean[31], uint8_t *buffer, size_t length);
+desk_refusal desk_page_lent(const uint64_t held[3], const uint64_t own[31], const int64_t matrix[961],
                             const int64_t right_hand[31], const int64_t mean[31], uint8_t *buffer, size_t length);
 desk_system desk_figures_lent(const uint64_t held[3], const uint64_t own[31], const int64_t matrix[961],
                               const int64_t right_hand[31], const int64_t mean[31]);
@@ -143,6 +147,12 @@ static inline desk_sweeping desk_sweep(desk_session *s, uint64_t n) {
  * May be refused with 21, then 24, then 13. */
 static inline desk_refusal desk_read(const desk_session *s, uint8_t *buffer, size_t length) {
     return desk_read_lent(s->held, s->own, s->matrix, s->right_hand, s->mean, buffer, length);
+}
+
+/* Writes the page of a mean that passes at the front of the buffer, a line of 28 bytes for each part; the bytes behind it are
+ * untouched, so that no zero ends it. The session is untouched. May be refused with 21, then 24, then 13. */
+static inline desk_refusal desk_page(const desk_session *s, uint8_t *buffer, size_t length) {
+    return desk_page_lent(s->held, s->own, s->matrix, s->right_hand, s->mean, buffer, length);
 }
 
 /* Shows the figures of the open file: a mean passes exactly if in each part k the sum of matrix[k][l] times part l, minus
@@ -176,7 +186,7 @@ static inline const char *desk_refusal_text(uint64_t number) {
     case 10: return "the oldest accident year must end with the same amount paid as incurred";
     case 11: return "each part of a mean must be from -2^26 to 2^26 ticks";
     case 12: return "the number of sweeps must be from 1 to 4,096";
-    case 13: return "the buffer has no room for the mean record";
+    case 13: return "the buffer is too short for what is to be written";
     case 14: return "the channel must be 0 (paid) or 1 (incurred)";
     case 15: return "the file has no such accident year";
     case 16: return "the diagonal of the matrix has a zero";

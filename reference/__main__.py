@@ -11,6 +11,7 @@ import paper
 import script
 import session
 import vectors
+from board_page import board_page
 from layout import Refusal
 from listing import listing, refused_line
 
@@ -23,6 +24,11 @@ def read_input(name: str) -> bytes:
 
 def run_list(arguments: argparse.Namespace) -> int:
     sys.stdout.write(listing(read_input(arguments.file)))
+    return 0
+
+
+def run_page(arguments: argparse.Namespace) -> int:
+    sys.stdout.write(board_page(read_input(arguments.file)))
     return 0
 
 
@@ -108,8 +114,9 @@ def parser() -> argparse.ArgumentParser:
         added.set_defaults(run=run)
         return added
 
-    listed = command("list", run_list, "print the listing of a file")
-    listed.add_argument("file", metavar="FILE", help="a file of the desk, or - for standard input")
+    for name, run, what in (("list", run_list, "listing"), ("page", run_page, "page")):
+        shown = command(name, run, f"print the {what} of a file")
+        shown.add_argument("file", metavar="FILE", help="a file of the desk, or - for standard input")
     judged = command("judge", run_judge, "print whether a mean record passes for a file")
     judged.add_argument("file", metavar="FILE", help="a file of the desk")
     judged.add_argument("record", metavar="RECORD", help="a mean record")
@@ -121,7 +128,7 @@ def parser() -> argparse.ArgumentParser:
     made.add_argument("--check", action="store_true", help="fail where one differs or is missing")
     drawn = command("random", run_random, "write drawn vectors for a longer comparison")
     drawn.add_argument("--seed", type=int, required=True)
-    drawn.add_argument("--count", type=count, required=True, help="of listings, and of sessions")
+    drawn.add_argument("--count", type=count, required=True, help="of files to list and page, and of sessions")
     drawn.add_argument("--out", type=Path, required=True, metavar="DIR")
     sample = command("sample", run_sample, "write the file of the paper's Tables 10 and 11")
     sample.add_argument("out", type=Path, metavar="OUT", help="the file to write")

@@ -1,39 +1,45 @@
 """The listing program of the specification: opens what it is given, sweeps with n = 4,096, reads and prints."""
 
-from collections.abc import Sequence
+from collections.abc import Callable, Sequence
 
 import layout
 import session
 from layout import Refusal
+from page import part_names
 
 
 def refused_line(refusal: Refusal) -> str:
     return f"refused {refusal.number} at {refusal.place}"
 
 
-def listing(given: bytes) -> str:
-    """What the program prints for the bytes on its standard input."""
-    return text_of(_lines(given))
-
-
 def text_of(lines: Sequence[str]) -> str:
     return "".join(line + "\n" for line in lines)
 
 
-def _lines(given: bytes) -> list[str]:
+def printed(given: bytes, text: Callable[[session.Held], str]) -> str:
+    """What a program prints: the text of the session in which the mean settled, or the one line of why it did not."""
     if len(given) > layout.LONGEST_FILE:
-        return [refused_line(Refusal(1))]
+        return text_of([refused_line(Refusal(1))])
     answer, state = session.open_file(session.EMPTY, given)
     if isinstance(answer, Refusal):
-        return [refused_line(answer)]
+        return text_of([refused_line(answer)])
     answer, state = session.sweep(state, session.MOST_SWEEPS)
     if not isinstance(answer, session.Settled):
-        return [f"spent {session.MOST_SWEEPS}"]
+        return text_of([f"spent {session.MOST_SWEEPS}"])
+    return text(state)
+
+
+def listing(given: bytes) -> str:
+    """What the program prints for the bytes on its standard input."""
+    return printed(given, _listing_text)
+
+
+def _listing_text(state: session.Held) -> str:
     last = state.file.last
     _, buffer = session.read(state, bytes(layout.record_length(last)))
-    return mean_lines(last, answer.total, layout.read_record(buffer, last))
+    return text_of(mean_lines(last, state.total, layout.read_record(buffer, last)))
 
 
 def mean_lines(last: int, total: int, mean: Sequence[int]) -> list[str]:
-    names = [f"phi {j}" for j in range(last + 1)] + [f"psi {j}" for j in range(last)]
-    return [f"J {last}", f"sweeps {total}"] + [f"{name} {part}" for name, part in zip(names, mean)]
+    parts = [f"{name} {index} {part}" for (name, index), part in zip(part_names(last), mean)]
+    return [f"J {last}", f"sweeps {total}", *parts]

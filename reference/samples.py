@@ -97,6 +97,22 @@ def half_tick(offset: int) -> File:
     return replace(f, prior_means=(10 * T + offset, 0, 0), prior_variances=(1 << 29, 1 << 46, 1 << 46))
 
 
+def at_the_prior(means: tuple[int, ...]) -> File:
+    """Priors far stronger than the observations, and the widest closeness: any means of the priors pass as they are."""
+    last, parts = len(means) // 2, len(means)
+    ones = filled_triangle(last, lambda: AMOUNT_LIMITS[0])
+    return File(
+        last=last,
+        closeness=CLOSENESS_LIMITS[1],
+        sigma2=(VARIANCE_LIMITS[1],) * (last + 1),
+        tau2=(VARIANCE_LIMITS[1],) * last,
+        prior_means=means,
+        prior_variances=(PRIOR_VARIANCE_LIMITS[0],) * parts,
+        paid=ones,
+        incurred=ones,
+    )
+
+
 def drawn_file(rng: Random, last: int | None = None) -> File:
     """An accepted file: mild, spread over all magnitudes, or made of the limits only."""
     last = rng.randint(1, 15) if last is None else last

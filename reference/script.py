@@ -42,8 +42,9 @@ def _call(letter: bytes, script: BinaryIO, state: session.State) -> tuple[list[s
             answer, state = session.sweep(state, _number(script))
             return [_line(answer)], state
         case b"r":
-            answer, buffer = session.read(state, LENT_BYTE * _length(script))
-            return [_line(answer), f"buffer {buffer.hex()}"], state
+            return _lines_with_buffer(*session.read(state, LENT_BYTE * _length(script))), state
+        case b"p":
+            return _lines_with_buffer(*session.page(state, LENT_BYTE * _length(script))), state
         case b"f":
             return _figures_lines(session.figures(state)), state
         case b"w":
@@ -69,7 +70,14 @@ def _line(answer: object) -> str:
             return f"going {total}"
         case session.Written():
             return "read"
+        case session.Paged():
+            return "page"
     raise TypeError(f"not an answer: {answer!r}")
+
+
+def _lines_with_buffer(answer: object, buffer: bytes) -> list[str]:
+    """Refused or not, the buffer is shown: a refusal must have left it alone."""
+    return [_line(answer), f"buffer {buffer.hex()}"]
 
 
 def _figures_lines(shown: Figures | Refusal) -> list[str]:

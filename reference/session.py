@@ -5,13 +5,17 @@ gives its answer with the state afterwards. A state is never changed in place, s
 the very state it was handed.
 """
 
+from collections.abc import Callable
 from dataclasses import dataclass
+from typing import TypeVar
 
 import chain
 import layout
 from layout import File, Refusal
+from page import build_page
 
 MOST_SWEEPS = 4_096
+Done = TypeVar("Done")  # the answer of a call that is not refused
 
 
 @dataclass(frozen=True)
@@ -61,7 +65,12 @@ class Going:
 
 @dataclass(frozen=True)
 class Written:
-    pass
+    """The record is written."""
+
+
+@dataclass(frozen=True)
+class Paged:
+    """The page is written."""
 
 
 @dataclass(frozen=True)
@@ -120,15 +129,27 @@ def _run_sweeps(state: Held, number: int) -> tuple[Settled | Going, Held]:
 
 
 def read(state: State, buffer: bytes) -> tuple[Written | Refusal, bytes]:
-    """21, 24, 13; the answer and the buffer afterwards. The state is untouched."""
+    """The record of a mean that passes."""
+    return _at_the_front(state, buffer, lambda held: layout.build_record(held.mean), Written())
+
+
+def page(state: State, buffer: bytes) -> tuple[Paged | Refusal, bytes]:
+    """The page of a mean that passes, with the own weights that it was tested with."""
+    return _at_the_front(state, buffer, lambda held: build_page(held.mean, held.figures.own), Paged())
+
+
+def _at_the_front(
+    state: State, buffer: bytes, text: Callable[[Held], bytes], done: Done
+) -> tuple[Done | Refusal, bytes]:
+    """21, 24, 13; the answer and the buffer afterwards, whose bytes behind the text stay. The state is untouched."""
     if state is EMPTY:
         return Refusal(21), buffer
     if not state.passes():
         return Refusal(24), buffer
-    record = layout.build_record(state.mean)
-    if len(buffer) < len(record):
+    written = text(state)
+    if len(buffer) < len(written):
         return Refusal(13), buffer
-    return Written(), record + buffer[len(record):]
+    return done, written + buffer[len(written):]
 
 
 def figures(state: State) -> chain.Figures | Refusal:

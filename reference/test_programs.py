@@ -14,8 +14,11 @@ import layout
 import samples
 import script
 import session
+from board_page import board_page
 from layout import build_file, build_record
 from listing import listing, mean_lines, text_of
+from page import page_length
+from test_page import PAGE_OF_F
 
 REFERENCE = Path(__file__).resolve().parent
 F = build_file(samples.file_f())
@@ -29,29 +32,49 @@ def string(lent: bytes) -> bytes:
     return struct.pack(">I", len(lent)) + lent
 
 
+class OneLine(unittest.TestCase):
+    """What both programs print in place of a listing and of a page."""
+
+    def assert_printed(self, given: bytes, line: str) -> None:
+        self.assertEqual((listing(given), board_page(given)), (line + "\n",) * 2)
+
+    def test_refusals(self) -> None:
+        for given, line in (
+            (b"", "refused 1 at 0"),
+            (damage.put(F, 86, 0, 8), "refused 9 at 86"),
+            (damage.put(F, 102, 1 << 12, 8), "refused 10 at 78"),
+            (bytes(2_807), "refused 1 at 0"),
+            (layout.with_length(build_file(samples.many_sweeps())[4:] + b"\0"), "refused 1 at 0"),
+            (damage.put(build_file(samples.many_sweeps()), 2_798, 0, 8), "refused 9 at 2798"),
+        ):
+            self.assert_printed(given, line)
+
+    def test_spent(self) -> None:
+        for sign in (1, -1):
+            self.assert_printed(build_file(samples.spent_at_a_limit(sign=sign)), "spent 4096")
+
+
 class Listing(unittest.TestCase):
     def test_file_f(self) -> None:
         self.assertEqual(listing(F), "J 1\nsweeps 0\nphi 0 10485760\nphi 1 1048576\npsi 0 -1048576\n")
-
-    def test_refusals(self) -> None:
-        for given, printed in (
-            (b"", "refused 1 at 0\n"),
-            (damage.put(F, 86, 0, 8), "refused 9 at 86\n"),
-            (damage.put(F, 102, 1 << 12, 8), "refused 10 at 78\n"),
-            (bytes(2_807), "refused 1 at 0\n"),
-            (layout.with_length(build_file(samples.many_sweeps())[4:] + b"\0"), "refused 1 at 0\n"),
-            (damage.put(build_file(samples.many_sweeps()), 2_798, 0, 8), "refused 9 at 2798\n"),
-        ):
-            self.assertEqual(listing(given), printed)
-
-    def test_spent(self) -> None:
-        self.assertEqual(listing(build_file(samples.spent_at_a_limit())), "spent 4096\n")
 
     def test_lines_of_the_longest_file(self) -> None:
         lines = listing(build_file(samples.many_sweeps())).splitlines()
         self.assertEqual(len(lines), 2 + 31)
         names = [f"phi {j}" for j in range(16)] + [f"psi {j}" for j in range(15)]
         self.assertEqual([line.rsplit(" ", 1)[0] for line in lines], ["J", "sweeps"] + names)
+
+
+class BoardPage(unittest.TestCase):
+    def test_file_f(self) -> None:
+        self.assertEqual(board_page(F), PAGE_OF_F.decode())
+
+    def test_has_the_parts_of_the_listing(self) -> None:
+        for last in (1, 5, layout.LARGEST_YEAR):
+            given = build_file(samples.many_sweeps(last))
+            lines = board_page(given).splitlines()
+            self.assertEqual([line.split()[:3] for line in lines], [line.split() for line in listing(given).splitlines()[2:]])
+            self.assertEqual(len(board_page(given)), page_length(last))
 
 
 class LongestListing(unittest.TestCase):
@@ -91,19 +114,35 @@ class Script(unittest.TestCase):
             b"s" + struct.pack(">I", 1) + b"o" + string(F) + b"o" + string(F)
             + b"j" + string(build_record((10 * t + 1, t, -t)))
             + b"j" + string(build_record((10 * t, t + 1, -t)))
-            + b"s" + struct.pack(">I", 1) + b"r" + struct.pack(">I", 18) + b"r" + struct.pack(">I", 2) + b"f"
+            + b"s" + struct.pack(">I", 1) + b"r" + struct.pack(">I", 18) + b"r" + struct.pack(">I", 2)
+            + b"p" + struct.pack(">I", 85) + b"p" + struct.pack(">I", 3) + b"f"
             + b"w" + string(F) + struct.pack(">II", 1, 0) + b"w" + string(F) + struct.pack(">II", 0, 2)
-            + b"c" + b"f" + b"r" + struct.pack(">I", 0) + b"o" + string(build_file(samples.many_sweeps(2)))
-            + b"s" + struct.pack(">I", 1) + b"c"
+            + b"c" + b"f" + b"r" + struct.pack(">I", 0) + b"p" + struct.pack(">I", 1) + b"o" + string(build_file(samples.many_sweeps(2)))
+            + b"s" + struct.pack(">I", 1) + b"p" + struct.pack(">I", 0) + b"c"
         )
         self.assertEqual(answers(given), [
             "refused 21 at 0", "opened", "refused 22 at 0", "passed", "fails 1", "settled 0",
             "read", "buffer 000000110100a0000000100000fff00000a5", "refused 13 at 0", "buffer a5a5",
+            "page", f"buffer {PAGE_OF_F.hex()}a5", "refused 13 at 0", "buffer a5a5a5",
             "figures 1 1", "own 131073 65537 65537", "row 131073 0 0", "row 0 98305 -32768", "row 0 -32768 98305",
             "right 1374400020480 137440002048 -137440002048",
             "row 00000000000010000000000000000800", "refused 15 at 0",
-            "closed", "refused 21 at 0", "refused 21 at 0", "buffer ", "opened", "going 1", "closed",
+            "closed", "refused 21 at 0", "refused 21 at 0", "buffer ", "refused 21 at 0", "buffer a5", "opened",
+            "going 1", "refused 24 at 0", "buffer ", "closed",
         ])
+
+    def test_a_page_leaves_the_session_as_it_was(self) -> None:
+        """Refused or not: the calls behind some pages answer as they do without them."""
+        file = build_file(samples.many_sweeps(2))
+        sizes = (0, 139, 140, 141)
+        pages = b"".join(b"p" + struct.pack(">I", size) for size in sizes)
+        swept = b"o" + string(file) + b"s" + struct.pack(">I", 2)
+        settled = swept + b"s" + struct.pack(">I", 4_096)
+        behind = b"s" + struct.pack(">I", 1) + b"r" + struct.pack(">I", 25) + b"fco" + string(file)
+        for before in (b"", b"o" + string(file), swept, settled):
+            place, whole = len(answers(before)), answers(before + pages + behind)
+            del whole[place:place + 2 * len(sizes)]
+            self.assertEqual(whole, answers(before + behind))
 
     def test_ends(self) -> None:
         self.assertEqual(answers(b""), [])
@@ -111,6 +150,7 @@ class Script(unittest.TestCase):
             b"x", b"C", b"\n",
             b"o", b"o\0\0\0", b"o" + string(F)[:-1], b"o" + string(bytes(4_097)),
             b"j" + struct.pack(">I", 0xFFFF_FFFF), b"s\0\0\0", b"r" + struct.pack(">I", 4_097),
+            b"p", b"p\0\0\0", b"p" + struct.pack(">I", 4_097),
             b"w" + string(F), b"w" + string(F) + bytes(7),
         ):
             self.assertEqual(answers(b"c" + end), ["closed", "script"], end[:9])
@@ -126,7 +166,7 @@ class CommandLine(unittest.TestCase):
         return subprocess.run([sys.executable, str(REFERENCE), *arguments], input=given, capture_output=True,
                               env=environment, timeout=60)
 
-    def test_list_and_sample(self) -> None:
+    def test_list_page_and_sample(self) -> None:
         with tempfile.TemporaryDirectory() as folder:
             sample = str(Path(folder) / "sample")
             self.assertEqual(self.run_command("sample", sample, "--closeness", "65536").returncode, 0)
@@ -134,6 +174,7 @@ class CommandLine(unittest.TestCase):
             done = self.run_command("list", sample)
         self.assertEqual((done.returncode, done.stdout.split(b"\n")[0]), (0, b"J 9"))
         self.assertEqual(self.run_command("list", "-", given=F).stdout, listing(F).encode())
+        self.assertEqual(self.run_command("page", "-", given=F).stdout, PAGE_OF_F)
 
     def test_judge(self) -> None:
         with tempfile.TemporaryDirectory() as folder:
@@ -162,7 +203,7 @@ class CommandLine(unittest.TestCase):
 
     def test_errors(self) -> None:
         for arguments in (
-            (), ("list",), ("nothing",), ("list", "/no/such/file"), ("sample", "x", "--closeness", "0"),
+            (), ("list",), ("page",), ("nothing",), ("list", "/no/such/file"), ("sample", "x", "--closeness", "0"),
             ("vectors", "--seed", "one"), ("random", "--seed", "1", "--count", "0", "--out", "x"),
         ):
             done = self.run_command(*arguments)

@@ -13,9 +13,13 @@ import paper
 import samples
 import session
 from layout import Refusal, build_file, build_record
-from session import EMPTY, Fails, Going, Held, Opened, Passed, Settled, Shown, Written
+from page import page_length
+from session import EMPTY, Fails, Going, Held, Opened, Paged, Passed, Settled, Shown, Written
+from test_page import PAGE_OF_F
 
 F = build_file(samples.file_f())
+RECORD_OF_F = struct.pack(">IBiii", 17, 1, 10 << 20, 1 << 20, -(1 << 20))
+WRITING = ((session.read, RECORD_OF_F, Written()), (session.page, PAGE_OF_F, Paged()))  # with what F has written and answered
 GOING = samples.many_sweeps(2)
 SPENT = samples.spent_at_a_limit()
 
@@ -148,7 +152,8 @@ class Sweep(unittest.TestCase):
             self.assertEqual(session.sweep(state, number), (Refusal(23, 0), state))
         for number in (0, 4_097):
             self.assertEqual(session.sweep(state, number), (Refusal(12, 0), state))
-        self.assertEqual(session.read(state, bytes(17)), (Refusal(24, 0), bytes(17)))
+        for call, text, _ in WRITING:
+            self.assertEqual(call(state, bytes(len(text))), (Refusal(24, 0), bytes(len(text))))
         self.assertEqual(session.judge(state, build_record(state.mean)), Fails(1))
 
     def test_spent_at_either_limit_at_every_closeness(self) -> None:
@@ -179,23 +184,34 @@ class Sweep(unittest.TestCase):
         self.assertEqual(chain.first_failing_part(state.figures, state.residues()), 9)
 
 
-class Read(unittest.TestCase):
+class ReadAndPage(unittest.TestCase):
     def test_writes_at_the_front_only(self) -> None:
         state = opened(samples.file_f())
-        record = struct.pack(">IBiii", 17, 1, 10 << 20, 1 << 20, -(1 << 20))
-        for size in (17, 18, 100):
-            self.assertEqual(session.read(state, b"\xa5" * size), (Written(), record + b"\xa5" * (size - 17)))
+        for call, text, done in WRITING:
+            for behind in (0, 1, 28, 83):
+                self.assertEqual(call(state, b"\xa5" * (len(text) + behind)), (done, text + b"\xa5" * behind))
 
     def test_short_buffers(self) -> None:
         state = opened(samples.file_f())
-        for size in (0, 16):
-            self.assertEqual(session.read(state, b"\xa5" * size), (Refusal(13, 0), b"\xa5" * size))
+        for call, text, _ in WRITING:
+            for size in (0, 1, len(text) - 1):
+                self.assertEqual(call(state, b"\xa5" * size), (Refusal(13, 0), b"\xa5" * size))
+
+    def test_room_for_every_last_year(self) -> None:
+        """One byte short is refused; a buffer that has room for the record has none for the page."""
+        for last in range(1, 16):
+            state = opened(samples.at_the_prior((0,) * layout.parts_count(last)))
+            for call, size, done in ((session.read, layout.record_length(last), Written()), (session.page, page_length(last), Paged())):
+                self.assertEqual([call(state, bytes(length))[0] for length in (size - 1, size)], [Refusal(13, 0), done])
+            self.assertLess(layout.record_length(last), page_length(last))
 
     def test_order(self) -> None:
-        for size in (0, 16, 17):
-            self.assertEqual(session.read(EMPTY, bytes(size)), (Refusal(21, 0), bytes(size)))
-        for size in (0, 24, 25, 26):
-            self.assertEqual(session.read(opened(GOING), bytes(size)), (Refusal(24, 0), bytes(size)))
+        for call, text, _ in WRITING:
+            for size in (0, len(text) - 1, len(text)):
+                self.assertEqual(call(EMPTY, bytes(size)), (Refusal(21, 0), bytes(size)))
+        for call, size in ((session.read, layout.record_length(2)), (session.page, page_length(2))):
+            for length in (0, size - 1, size, size + 1):
+                self.assertEqual(call(opened(GOING), bytes(length)), (Refusal(24, 0), bytes(length)))
 
     def test_what_is_read_passes_when_judged(self) -> None:
         rng = Random(31)

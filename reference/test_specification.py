@@ -13,7 +13,9 @@ import layout
 import paper
 import samples
 import session
+from board_page import board_page
 from listing import listing
+from page import page_length, part_names
 from scales import TICKS_PER_DOUBLING as T
 from scales import logarithm, weight
 
@@ -53,7 +55,7 @@ def opened(closeness: int) -> session.State:
 
 def place_of(formula: str, last: int) -> int:
     """A formula of the table, such as 10 + 20N + 4(J+1)(J+2)."""
-    product = re.sub(r"(?<=[\dN)])(?=[N(])", "*", formula)
+    product = re.sub(r"(?<=[\dN)])(?=[NJ(])", "*", formula)
     return eval(product, {"__builtins__": {}}, {"N": 2 * last + 1, "J": last})
 
 
@@ -185,10 +187,43 @@ class Formulas(unittest.TestCase):
         self.assertEqual((*of_phi, *of_psi), chain.figures_of(file).right_hand_side)
 
 
-class Listing(unittest.TestCase):
-    def test_of_f(self) -> None:
-        shown = re.search(r"^((?:    .*\n)+)", section("The calls"), re.MULTILINE)[1]
-        self.assertEqual(shown.replace("    ", ""), listing(layout.build_file(samples.file_f())))
+class Programs(unittest.TestCase):
+    def test_what_they_print_for_f(self) -> None:
+        for name, printed in (("The calls", listing), ("The page", board_page)):
+            shown = re.search(r"^((?:    .*\n)+)", section(name), re.MULTILINE)[1]
+            self.assertEqual(re.sub(r"(?m)^    ", "", shown), printed(layout.build_file(samples.file_f())))
+
+
+class Page(unittest.TestCase):
+    def test_columns(self) -> None:
+        """A line put together by the table is the reference's."""
+        table = rows(section("The page"), 2)
+        ends = [int(columns.split(" to ")[1]) for columns, _ in table]
+        self.assertEqual([what.split(",")[0] for _, what in table], ["the part's name", "its index", "its mean", "its own weight D"])
+        for file in (samples.file_f(), paper.tables_file(256)):
+            lines = board_page(layout.build_file(file)).splitlines()
+            parts = zip(part_names(file.last), paper.settled_mean(file), chain.figures_of(file).own, strict=True)
+            for line, ((name, index), mean, own) in zip(lines, parts, strict=True):
+                told = ""
+                for end, value in zip(ends, (name, index, mean, own)):
+                    told += str(value).rjust(end - len(told))
+                self.assertEqual(line, told)
+
+    def test_every_column_is_wide_enough(self) -> None:
+        """Column by column: the widest value is as the text has it, and takes up all columns from the first to the last."""
+        low, most = layout.MEAN_LIMITS[0], max(chain.figures_of(samples.file_at_limits(layout.LARGEST_YEAR, 0)).own)
+        self.assertEqual(most, 17 << 28)
+        said = f"the widest being {layout.LARGEST_YEAR}, −{-low:,} and 17·2^28 = {most:,}."
+        self.assertIn(said, " ".join(section("The page").split()))
+        widths = [int(last) - int(first) + 1 for first, last in (row[0].split(" to ") for row in rows(section("The page"), 2))]
+        self.assertEqual(widths, [len(str(value)) for value in ("phi", layout.LARGEST_YEAR, low, most)])
+
+    def test_lengths(self) -> None:
+        text = " ".join(section("The page").split())
+        longest = page_length(layout.LARGEST_YEAR)
+        self.assertIn(f"A line has 28 bytes, a page has 28(2J+1) bytes, and the longest, J = 15, has {longest} ", text)
+        for last in range(1, layout.LARGEST_YEAR + 1):
+            self.assertEqual(place_of("28(2J+1)", last), page_length(last))
 
 
 class Closeness(unittest.TestCase):

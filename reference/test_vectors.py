@@ -17,6 +17,11 @@ class Made(unittest.TestCase):
     def listing(self, name: str) -> list[str]:
         return self.made[f"listing/{name}"].printed.decode().splitlines()
 
+    def pages(self) -> dict[str, list[str]]:
+        """What the page's program prints, by name."""
+        names = [name for name in self.made if name.startswith("board_page/")]
+        return {name.partition("/")[2]: self.made[name].printed.decode().splitlines() for name in names}
+
     def test_every_refusal_number_is_in_the_script(self) -> None:
         lines = self.made["calls/scenes"].printed.decode().splitlines()
         numbers = {int(line.split()[1]) for line in lines if line.startswith("refused")}
@@ -33,6 +38,36 @@ class Made(unittest.TestCase):
         self.assertEqual(self.listing("tables-256")[0], "J 9")
         for last in range(1, 16):
             self.assertIn(self.listing(f"years-{last:02}")[0], (f"J {last}", "spent 4096"))
+
+    def test_pages(self) -> None:
+        pages = [lines for lines in self.pages().values() if lines[0].startswith("phi ")]
+        self.assertEqual(self.pages()["f"][0], "phi  0  10485760     131073")
+        self.assertLessEqual({3, 19, 31}, set(map(len, pages)))
+        means, own = zip(*((int(line[7:16]), int(line[17:27])) for lines in pages for line in lines))
+        self.assertLessEqual({-(1 << 26), 1 << 26, 0, -1}, set(means))
+        self.assertEqual((min(own), max(own)), (65, 17 << 28))
+        self.assertEqual({len(str(abs(mean))) for mean in means}, {*range(1, 9)})
+        self.assertEqual({len(str(weight)) for weight in own}, {*range(2, 11)})
+
+    def test_lines_in_place_of_a_page(self) -> None:
+        alone = {lines[0] for lines in self.pages().values() if len(lines) == 1}
+        self.assertEqual({int(line.split()[1]) for line in alone if line.startswith("refused")}, {*range(1, 11)})
+        self.assertIn("spent 4096", alone)
+
+    def test_pages_of_the_script(self) -> None:
+        """The shortest and the longest, in buffers that are empty, one byte short, just long enough and longer."""
+        given, printed = self.made["calls/scenes"].given, self.made["calls/scenes"].printed.decode().splitlines()
+        lent = {len(bytes.fromhex(after.removeprefix("buffer "))) for line, after in zip(printed, printed[1:]) if line == "page"}
+        self.assertLessEqual({size + more for size in (84, 868) for more in (0, 1, 28)}, lent)
+        for size in (0, 83, 867):
+            self.assertIn(b"p" + size.to_bytes(4, "big"), given)
+
+    def test_no_file_is_kept_for_two_contents(self) -> None:
+        """Programs share inputs, of which each is kept once."""
+        kept = {}
+        for name, vector in self.made.items():
+            for path, content in zip(vectors.paths(name), (vector.given, vector.printed)):
+                self.assertEqual(kept.setdefault(path, content), content, path)
 
     def test_lowest_and_highest_places(self) -> None:
         for number, lowest, highest in ((6, 10, 250), (7, 38, 622), (8, 34, 618), (9, 70, 2_798)):
@@ -55,7 +90,10 @@ class Made(unittest.TestCase):
         """What `python3 reference sample` writes is the vector that is kept as the sample."""
         sample = self.made["listing/tables-256"]
         self.assertEqual(sample.given, build_file(paper.tables_file(256)))
-        self.assertEqual(vectors.paths("listing/tables-256")[0], "samples/tables-10-11.file")
+        self.assertEqual(self.made["board_page/tables-256"].given, sample.given)
+        for program, ending in (("listing", "listing"), ("board_page", "page")):
+            kept = ("samples/tables-10-11.file", f"samples/tables-10-11.{ending}")
+            self.assertEqual(vectors.paths(f"{program}/tables-256"), kept)
 
     def test_small_enough_to_keep(self) -> None:
         self.assertLess(sum(len(vector.given + vector.printed) for vector in self.made.values()), 1_500_000)
@@ -66,7 +104,9 @@ class Made(unittest.TestCase):
 
 
 class Comparison(unittest.TestCase):
-    MADE = {"listing/f": vectors.Vector(b"1", b"2"), "script/a": vectors.Vector(b"3", b"4")}
+    MADE = {
+        "listing/f": vectors.Vector(b"1", b"2"), "script/a": vectors.Vector(b"3", b"4"), "board_page/length-0": vectors.Vector(b"", b"5"),
+    }
 
     def test_where_each_is_kept(self) -> None:
         with tempfile.TemporaryDirectory() as name:
@@ -76,6 +116,7 @@ class Comparison(unittest.TestCase):
         self.assertEqual(kept, {
             "crates/listing/stdin": b"1", "crates/listing/stdout": b"2",
             "vectors/script/a.in": b"3", "vectors/script/a.out": b"4",
+            "vectors/listing/length-0.in": b"", "vectors/board_page/length-0.out": b"5",
         })
 
     def test_written_vectors_agree(self) -> None:
@@ -98,8 +139,9 @@ class Comparison(unittest.TestCase):
 
     def test_random_vectors(self) -> None:
         made = vectors.make_random(3, 4)
-        self.assertEqual(set(made), {f"{folder}/{k}" for folder in ("listing", "calls") for k in range(1, 5)})
+        self.assertEqual(set(made), {f"{folder}/{k}" for folder in ("listing", "board_page", "calls") for k in range(1, 5)})
         self.assertEqual(made, vectors.make_random(3, 4))
+        self.assertEqual(made["listing/1"].given, made["board_page/1"].given)
         self.assertFalse([name for name, vector in made.items() if b"script" in vector.printed])
 
 

@@ -1,12 +1,14 @@
-"""The vectors: inputs and expected outputs of the programs `listing` and `calls`, made from a seed. By name:
+"""The vectors: inputs and expected outputs of the programs `listing`, `board_page` and `calls`, made from a seed. By name:
 
-    listing/NAME    a file, and what the listing prints for it
-    script/NAME     a script of calls that ends early, and what is printed before it does
-    calls/scenes    a script of calls, and its answers
+    listing/NAME       a file, and what the listing prints for it
+    board_page/NAME    a file, and the page that is printed for it
+    script/NAME        a script of calls that ends early, and what is printed before it does
+    calls/scenes       a script of calls, and its answers
 
-Each is kept as vectors/NAME.in and NAME.out, but for those of ELSEWHERE.
+Each is kept as vectors/NAME.in and NAME.out, but for those of ELSEWHERE; an input that the listing has too is kept with the listing.
 """
 
+from collections.abc import Callable
 from dataclasses import dataclass
 from io import BytesIO
 from pathlib import Path
@@ -15,15 +17,20 @@ from random import Random
 import script
 import vectors_calls
 import vectors_listing
+from board_page import board_page
 from listing import listing
+from vectors_board_page import OF_THE_LISTING, board_page_inputs
 
 DEFAULT_SEED = 1
 ROOT = Path(__file__).resolve().parent.parent
 # Those that `rt ci` runs are kept in the programs' crates, and the sample where a reader finds it.
 ELSEWHERE = {
     "listing/f": ("crates/listing/stdin", "crates/listing/stdout"),
+    "board_page/f": ("crates/board_page/stdin", "crates/board_page/stdout"),
     "calls/scenes": ("crates/calls/stdin", "crates/calls/stdout"),
     "listing/tables-256": ("samples/tables-10-11.file", "samples/tables-10-11.listing"),
+    "board_page/tables-256": ("samples/tables-10-11.file", "samples/tables-10-11.page"),
+    **{f"board_page/{name}": (f"vectors/listing/{name}.in", f"vectors/board_page/{name}.out") for name in OF_THE_LISTING},
 }
 
 
@@ -34,11 +41,13 @@ class Vector:
 
 
 Vectors = dict[str, Vector]  # by name
+PRINTS: dict[str, Callable[[bytes], str]] = {"listing": listing, "board_page": board_page}  # by the program's name
 
 
 def make(seed: int) -> Vectors:
     return {
-        **_listings(vectors_listing.listing_inputs(seed)),
+        **_printed("listing", vectors_listing.listing_inputs(seed)),
+        **_printed("board_page", board_page_inputs(seed)),
         **_scripts("script", vectors_calls.script_ends()),
         **_scripts("calls", {"scenes": vectors_calls.script_of_scenes(seed)}),
     }
@@ -50,11 +59,13 @@ def make_lengths() -> Vectors:
 
 
 def make_random(seed: int, count: int) -> Vectors:
-    """For long comparisons: so many listings and so many sessions, all drawn."""
+    """For long comparisons: so many files, listed and paged, and so many sessions, all drawn."""
     rng = Random(f"random {seed}")
     numbers = [f"{k:0{len(str(count))}}" for k in range(1, count + 1)]
+    files = {number: vectors_listing.drawn_listing_input(rng) for number in numbers}
     return {
-        **_listings({number: vectors_listing.drawn_listing_input(rng) for number in numbers}),
+        **_printed("listing", files),
+        **_printed("board_page", files),
         **_scripts("calls", {number: b"".join(vectors_calls.drawn_session(rng)) for number in numbers}),
     }
 
@@ -93,8 +104,8 @@ def _files(made: Vectors) -> dict[str, bytes]:
     return files
 
 
-def _listings(inputs: dict[str, bytes]) -> Vectors:
-    return {f"listing/{name}": Vector(given, listing(given).encode()) for name, given in inputs.items()}
+def _printed(program: str, inputs: dict[str, bytes]) -> Vectors:
+    return {f"{program}/{name}": Vector(given, PRINTS[program](given).encode()) for name, given in inputs.items()}
 
 
 def _scripts(folder: str, scripts: dict[str, bytes]) -> Vectors:

@@ -9,55 +9,20 @@ import layout
 import paper
 import samples
 import session
+from call_bytes import (
+    CLOSE, FIGURES, call_judge, call_open, call_page, call_read, call_row, call_sweep, number, string,
+)
 from damage import (
     SPOIL_FILE, SPOIL_RECORD, drawn_damage, drawn_file_damage, fields_of, pairs_of_spoils, put,
 )
 from layout import LARGEST_YEAR, File, build_file, build_record, record_length
+from page import LINE_LENGTH, page_length
 from scales import TICKS_PER_DOUBLING as T
 from script import LONGEST_STRING
+from vectors_board_page import page_files
 from vectors_listing import TABLES_CLOSENESSES
 
 LARGEST_NUMBER = (1 << 32) - 1
-
-
-# The calls as bytes.
-
-
-def number(value: int) -> bytes:
-    return value.to_bytes(4, "big")
-
-
-def string(lent: bytes) -> bytes:
-    return number(len(lent)) + lent
-
-
-def call_open(lent: bytes) -> bytes:
-    return b"o" + string(lent)
-
-
-def call_judge(record: bytes) -> bytes:
-    return b"j" + string(record)
-
-
-def call_sweep(sweeps: int) -> bytes:
-    return b"s" + number(sweeps)
-
-
-def call_read(size: int) -> bytes:
-    return b"r" + number(size)
-
-
-def call_row(lent: bytes, channel: int, year: int) -> bytes:
-    return b"w" + string(lent) + number(channel) + number(year)
-
-
-FIGURES = b"f"
-CLOSE = b"c"
-
-
-def one_of_each() -> Iterator[bytes]:
-    """Every kind of call, once, on an empty session, which is empty again behind the last."""
-    yield from (call_open(b""), call_judge(b""), call_sweep(1), call_read(0), FIGURES, call_row(b"", 0, 0), CLOSE)
 
 
 def script_of_scenes(seed: int, drawn_sessions: int = 60) -> bytes:
@@ -78,6 +43,8 @@ def script_of_scenes(seed: int, drawn_sessions: int = 60) -> bytes:
         *(every_row(build_file(samples.drawn_file(rng, last))) for last in (1, 2, 3, 9, LARGEST_YEAR)),
         row_refusals(),
         *(settle_and_read(rng, samples.drawn_file(rng, last)) for last in range(1, LARGEST_YEAR + 1)),
+        *(pages(file) for file in page_files().values()),
+        *(pages(samples.file_at_limits(last, end)) for last in (1, LARGEST_YEAR) for end in (0, 1)),
         damaged_files(rng),
         *(drawn_session(rng) for _ in range(drawn_sessions)),
     ]
@@ -100,6 +67,9 @@ def script_ends() -> dict[str, bytes]:
         "string-largest": b"j" + number(LARGEST_NUMBER),
         "buffer-4096": call_open(f) + call_read(LONGEST_STRING),
         "buffer-4097": call_open(f) + call_read(LONGEST_STRING + 1) + CLOSE,
+        "page-4096": call_open(f) + call_page(LONGEST_STRING),
+        "page-4097": call_open(f) + call_page(LONGEST_STRING + 1) + CLOSE,
+        "end-in-page": call_open(f) + call_page(page_length(1))[:-1],
     }
 
 
@@ -107,14 +77,12 @@ def script_ends() -> dict[str, bytes]:
 
 
 def figures_of_document() -> Iterator[bytes]:
-    """File F: the means that the specification judges, its two refusals, and its reading."""
+    """File F: the means that the specification judges, its two refusals, its reading and its page."""
     means = [(10 * T, T, -T), (10 * T + 1, T, -T), (10 * T + 2, T, -T), (10 * T, T + 1, -T)]
     for closeness in (1, 2):
         yield from (call_open(build_file(samples.file_f(closeness))), FIGURES)
         yield from (call_judge(build_record(mean)) for mean in means)
-        yield call_sweep(1)
-        yield call_read(record_length(1))
-        yield CLOSE
+        yield from (call_sweep(1), call_read(record_length(1)), call_page(page_length(1)), CLOSE)
     f = build_file(samples.file_f())
     yield call_open(put(f, 86, 0, 8))
     yield call_open(put(f, 102, 1 << 12, 8))
@@ -126,12 +94,14 @@ def state_refusals() -> Iterator[bytes]:
     record = build_record((0, 0, 0))
     for _ in range(2):  # again after a close: a closed session is as empty as a new one
         yield from (call_judge(record), call_judge(b""), call_sweep(1), call_sweep(0))
-        yield from (call_read(17), call_read(0), FIGURES, CLOSE)
+        yield from (call_read(17), call_read(0), call_page(84), call_page(0), FIGURES, CLOSE)
     yield from (call_open(f), call_open(f), call_open(b""), call_open(SPOIL_FILE[9](f)), call_open(going))
-    yield from (call_sweep(4_096), call_read(17), CLOSE)
+    yield from (call_sweep(4_096), call_read(17), call_page(84), CLOSE)
     yield from (call_open(b""), call_judge(record), FIGURES)  # a refused open opens nothing
-    yield from (call_open(going), call_read(record_length(2)), call_read(record_length(2) - 1), call_read(0))
-    yield from (call_sweep(4_096), call_read(record_length(2) - 1), call_read(record_length(2)), CLOSE, CLOSE)
+    record_size, page_size = record_length(2), page_length(2)
+    reads = map(call_read, (0, record_size - 1, record_size))
+    writes = (*reads, *map(call_page, (0, page_size - 1, page_size)))  # 24, and behind the sweeps 13 where it is too short
+    yield from (call_open(going), *writes, call_sweep(4_096), *writes, CLOSE, CLOSE)
 
 
 def sweep_numbers() -> Iterator[bytes]:
@@ -193,17 +163,17 @@ def tables(closeness: int) -> Iterator[bytes]:
         yield from (call_sweep(sweeps), call_read(size))
     yield from (call_judge(record) for record in records_near(mean, (1, -1, closeness, -closeness, 1 << 20)))
     yield from (CLOSE, call_open(lent), call_sweep(4_096))
-    yield from (call_read(size - 1), call_read(size), call_read(size + 9), CLOSE)
+    yield from (call_read(size - 1), call_read(size), call_read(size + 9), call_page(page_length(file.last)), CLOSE)
 
 
 def spent() -> Iterator[bytes]:
-    """23, reached in one call and in many; 12 before it; judge and read go on; reopening starts anew."""
+    """23, reached in one call and in many; 12 before it; judge, read and page go on; reopening starts anew."""
     at_limits = (samples.spent_at_a_limit(closeness, sign) for closeness in (1, 65_536) for sign in (1, -1))
     for file in (*at_limits, paper.tables_file(1)):
         lent, record = build_file(file), build_record(file.prior_means)
         yield from (call_open(lent), *map(call_sweep, (1 << k for k in range(12))), call_read(0))
         yield from map(call_sweep, (1, 1, 0, 4_097, 4_096))  # to 4,096, then 23, 12, 12, 23
-        yield from (call_judge(record), call_read(4_096), call_open(lent), CLOSE)
+        yield from (call_judge(record), call_read(4_096), call_page(page_length(file.last)), call_open(lent), CLOSE)
         yield from (call_open(lent), call_sweep(4_095), call_sweep(4_096), call_sweep(4_096), CLOSE)
         yield from (call_open(lent), call_sweep(4_096), call_sweep(1), CLOSE, call_sweep(1))
 
@@ -249,8 +219,8 @@ def row_refusals() -> Iterator[bytes]:
 
 
 def settle_and_read(rng: Random, file: File) -> Iterator[bytes]:
-    """One J: some sweeps, judging near the mean, all sweeps, reading into buffers of every kind."""
-    size = record_length(file.last)
+    """One J: some sweeps, judging near the mean, all sweeps, reading and paging into buffers of every kind."""
+    size, page_size = record_length(file.last), page_length(file.last)
     mean = swept(file, session.MOST_SWEEPS)
     yield from (call_open(build_file(file)), call_sweep(1), call_judge(build_record(swept(file, 1))))
     yield call_sweep(2)
@@ -258,8 +228,18 @@ def settle_and_read(rng: Random, file: File) -> Iterator[bytes]:
     yield from (call_judge(record) for record in records_near(mean, offsets))
     yield from (call_sweep(rng.randint(1, 4_096)), call_sweep(4_096))
     yield from map(call_read, (0, size - 1, size, size + 1, size + rng.randint(2, 40)))
+    yield from map(call_page, (0, page_size - 1, page_size, page_size + rng.randint(2, 40)))
     wider = replace(file, closeness=65_536)
     yield from (CLOSE, call_open(build_file(wider)), call_sweep(4_096), call_read(size), CLOSE)
+
+
+def pages(file: File) -> Iterator[bytes]:
+    """One file: its page in buffers of every size, behind which mean, total and page are what they were."""
+    size = page_length(file.last)
+    held = (call_sweep(4_096), call_judge(build_record(file.prior_means)), call_read(record_length(file.last)))
+    yield from (call_open(build_file(file)), call_page(size), *held)
+    yield from map(call_page, (0, 1, size - 1, size, size + 1, size + LINE_LENGTH))
+    yield from (*held, call_page(size), CLOSE, call_page(size))
 
 
 def damaged_files(rng: Random) -> Iterator[bytes]:
@@ -294,8 +274,8 @@ def drawn_session(rng: Random) -> Iterator[bytes]:
 
 
 def _drawn_call(rng: Random, file: File, mean: tuple[int, ...]) -> bytes:
-    lent, size = build_file(file), record_length(file.last)
-    match rng.choices("ojsrfwcnd", (2, 12, 12, 8, 1, 2, 1, 2, 3))[0]:
+    lent, size, page_size = build_file(file), record_length(file.last), page_length(file.last)
+    match rng.choices("ojsrpfwcnd", (2, 12, 12, 8, 4, 1, 2, 1, 2, 3))[0]:
         case "o":
             return call_open(lent)
         case "j":
@@ -305,6 +285,8 @@ def _drawn_call(rng: Random, file: File, mean: tuple[int, ...]) -> bytes:
             return call_sweep(rng.choice((1, 1, 1, 2, 3, few, 4_096, 0, 4_097, any_number)))
         case "r":
             return call_read(rng.choice((size - 1, size, size, size + 1, rng.randint(0, 150))))
+        case "p":
+            return call_page(rng.choice((page_size - 1, page_size, page_size, page_size + 1, rng.randint(0, 900))))
         case "f":
             return FIGURES
         case "w":

@@ -1,8 +1,8 @@
 """What must be believed to read the contracts at the border is what docs/CLAIMS.md lists, and no more.
 
 The border is every function that can be called from outside: the calls of the specification's table, the public functions of the session,
-what C calls, and `list`, which makes the page of the listing. From the names in their contracts the imports are followed, module by
-module. Every module of this repository that is reached, and every source that such a contract stands in, must be in that list, whose
+what C calls, and `list` and `board`, which make what the programs print. From the names in their contracts the imports are followed, module
+by module. Every module of this repository that is reached, and every source that such a contract stands in, must be in that list, whose
 folders stand for all that is in them, and every entry of the list must be reached. Types that Rattle declares are in its sources, and
 the rest is the kit's.
 
@@ -21,7 +21,7 @@ from documents import blocks, sentences
 from resolving import Named, resolved
 
 SESSION = "crates/session/src"
-LISTING = ("crates/listing/src/main.rt", "list")
+PROGRAMS = [("crates/listing/src/main.rt", "list"), ("crates/board_page/src/main.rt", "board")]
 DOCUMENT = "docs/CLAIMS.md"
 LIST = "## What must be believed besides"
 
@@ -41,7 +41,7 @@ def border() -> list[Function]:
         found += [(path, name) for name in re.findall(r"^pub fn (\w+)", text_of(path), re.MULTILINE)]
     for path in files_of("desk", "src/", ".rt"):
         found += [(path, name) for name in re.findall(r'^pub extern "C" fn (\w+)', text_of(path), re.MULTILINE)]
-    return list(dict.fromkeys([*found, LISTING]))
+    return list(dict.fromkeys([*found, *PROGRAMS]))
 
 
 def contract(function: Function) -> tuple[str, str]:

@@ -1,5 +1,6 @@
 """A small checkout with the scripts of this one, and a machine that has only the tools which they may use. The kit is a fake: its
-`rt` writes down how it is called, reads its standard input, says what the real one says, and builds programs that list their own."""
+`rt` writes down how it is called, reads its standard input, says what the real one says, and builds programs that print their own
+behind how a listing or a page begins."""
 
 import os
 import shutil
@@ -13,7 +14,14 @@ ROOT = Path(__file__).resolve().parent.parent
 SCRIPTS = ("run", "build", "test")
 PINNED = (ROOT / "kit.txt").read_text().strip()
 TOOLS = ("bash", "cat", "dirname", "find", "install", "ln", "mkdir", "mv", "readlink", "rm", "tac", "touch")
-CRATES = "# NAME: DEPENDENCIES\nfields:\nchain: fields\ndesk: fields chain\nlisting: chain io\ncalls: fields chain io\n"
+CRATES = """# NAME: DEPENDENCIES
+fields:
+chain: fields
+desk: fields chain
+listing: chain io
+board_page: chain io
+calls: fields chain io
+"""
 
 RT = r"""#!{bash}
 case $1 in
@@ -32,7 +40,9 @@ staticlib)
     echo archive >target/staticlib/libdesk.a
     echo "rt: target/staticlib/libdesk.a has the functions of desk that are marked" ;;
 check)
-    printf '%s\n' '#!{bash}' 'echo J 1' cat >target/bin/$2
+    begins='J 1'
+    [ $2 != board_page ] || begins='phi  0 '
+    printf '%s\n' '#!{bash}' "echo '$begins'" cat >target/bin/$2
     chmod +x target/bin/$2
     echo "rt: $2 proved (7 s)" ;;
 esac
@@ -72,9 +82,9 @@ class Checkout:
         path.write_text(text.format(bash=bash, pinned=PINNED))
         path.chmod(0o755)
 
-    def listing(self, body: str) -> None:
-        """A listing program that is newer than its sources."""
-        self.program(self.root / "target" / "bin" / "listing", f"#!{{bash}}\n{body}\n")
+    def built(self, name: str, body: str) -> None:
+        """A program of the desk that is newer than its sources."""
+        self.program(self.root / "target" / "bin" / name, f"#!{{bash}}\n{body}\n")
 
     def without_kit(self) -> None:
         (self.tools / "rt").unlink()

@@ -1,8 +1,8 @@
-"""The programs `listing` and `calls` against the reference, to the byte.
+"""The programs `listing`, `board_page` and `calls` against the reference, to the byte.
 
-First every vector and a file of every length, then listings and sessions that the reference draws from a seed, then scripts of
-very many calls. Then what a whole input at once does not show: that the listing takes its input in pieces, and that `calls`
-answers each call before it reads the next.
+First every vector and a file of every length, then files and sessions that the reference draws from a seed, then scripts of
+very many calls. Then what a whole input at once does not show: that the listing and the page take their input in pieces, and that
+`calls` answers each call before it reads the next.
 """
 
 import argparse
@@ -22,12 +22,14 @@ from random import Random
 ROOT = Path(__file__).resolve().parent.parent
 sys.path.insert(0, str(ROOT / "reference"))
 
+import call_bytes
 import vectors
 import vectors_calls
-from vectors import Vector, Vectors
+from vectors import PRINTS, Vectors
 
 SECONDS = 60  # after which a program counts as hanging
-PROGRAMS = {"listing": "listing", "script": "calls", "calls": "calls"}  # by the first word of a vector's name
+# By the first word of a vector's name.
+PROGRAMS = {"listing": "listing", "board_page": "board_page", "script": "calls", "calls": "calls"}
 MANY_CALLS = 1_100_000  # more than 2^20
 MANY_OF_EACH = 70_000  # more than 2^16
 
@@ -53,8 +55,7 @@ def complaints_at_once(folder: Path, made: Vectors) -> Iterator[str]:
 
 def complaints_of_many_calls(folder: Path) -> Iterator[str]:
     """`calls` goes on as long as it is asked: a million calls of one kind, then every kind again and again."""
-    closes = vectors_calls.CLOSE
-    for script, times in ((closes, MANY_CALLS), (b"".join(vectors_calls.one_of_each()), MANY_OF_EACH)):
+    for script, times in ((call_bytes.CLOSE, MANY_CALLS), (b"".join(call_bytes.one_of_each()), MANY_OF_EACH)):
         done = subprocess.run([folder / "calls"], input=script * times, capture_output=True, timeout=SECONDS)
         said = complaint(vectors.answers(script) * times, done.stdout)
         if said or done.returncode or done.stderr:
@@ -80,16 +81,17 @@ def wait_until_read(pipe: int) -> None:
         time.sleep(0.0005)
 
 
-def complaints_in_pieces(folder: Path, vector: Vector, size: int) -> Iterator[str]:
-    """The listing, whose input comes so many bytes at a time."""
-    with started(folder / "listing") as process:
+def complaints_in_pieces(folder: Path, made: Vectors, name: str, size: int) -> Iterator[str]:
+    """A listing or a page, whose input comes so many bytes at a time."""
+    program, vector = PROGRAMS[name.partition("/")[0]], made[name]
+    with started(folder / program) as process:
         for start in range(0, len(vector.given), size):
             process.stdin.write(vector.given[start:start + size])
             wait_until_read(process.stdin.fileno())
         printed, _ = process.communicate(timeout=SECONDS)
     said = complaint(vector.printed, printed)
     if said:
-        yield f"the listing, {size} bytes at a time: {said}"
+        yield f"{name}, {size} bytes at a time: {said}"
 
 
 def answer(pipe: int, size: int) -> bytes:
@@ -127,9 +129,10 @@ def all_complaints(folder: Path, seed: int, count: int) -> Iterator[str]:
     yield from complaints_at_once(folder, vectors.make_lengths())
     yield from complaints_at_once(folder, vectors.make_random(seed, count))
     yield from complaints_of_many_calls(folder)
-    for name in ("f", "length-2806", "length-2807", "refused-09-highest"):
-        for size in (1, 7, 2_806):
-            yield from complaints_in_pieces(folder, made[f"listing/{name}"], size)
+    for program in PRINTS:
+        for name in ("f", "length-2806", "length-2807", "refused-09-highest"):
+            for size in (1, 7, 2_806):
+                yield from complaints_in_pieces(folder, made, f"{program}/{name}", size)
     rng = Random(f"pipe {seed}")
     for calls in (vectors_calls.figures_of_document(), *(vectors_calls.drawn_session(rng) for _ in range(3))):
         yield from complaints_of_a_session(folder, list(calls))
@@ -138,7 +141,7 @@ def all_complaints(folder: Path, seed: int, count: int) -> Iterator[str]:
 def main() -> int:
     top = argparse.ArgumentParser(description=__doc__, formatter_class=argparse.RawDescriptionHelpFormatter)
     top.add_argument("--seed", type=int, default=1, help="default %(default)s")
-    top.add_argument("--count", type=int, default=50, help="of drawn listings, and of drawn sessions; default %(default)s")
+    top.add_argument("--count", type=int, default=50, help="of drawn files, and of drawn sessions; default %(default)s")
     top.add_argument("--programs", type=Path, default=ROOT / "target" / "bin", metavar="DIR", help="default: target/bin")
     arguments = top.parse_args()
     for name in sorted(set(PROGRAMS.values())):
@@ -152,7 +155,7 @@ def main() -> int:
     except (OSError, subprocess.TimeoutExpired) as error:
         print(f"a program hangs or went away: {error}")
         found += 1
-    drawn = f"{arguments.count} listings and {arguments.count} sessions drawn with seed {arguments.seed}"
+    drawn = f"{arguments.count} files and {arguments.count} sessions drawn with seed {arguments.seed}"
     print(f"the programs and the reference: {found} differences, with {drawn}")
     return 1 if found else 0
 

@@ -141,7 +141,7 @@ def is_printed(text: str) -> bool:
 def printed_lines() -> frozenset[str]:
     """A pattern for each text of the reference that becomes a line."""
     found = set()
-    for name in ("reference/listing.py", "reference/script.py"):
+    for name in ("reference/listing.py", "reference/page.py", "reference/script.py"):
         for node in ast.walk(ast.parse(text_of(name))):
             parts = node.values if isinstance(node, ast.JoinedStr) else [node]
             texts = [part.value if isinstance(part, ast.Constant) else None for part in parts]

@@ -3,7 +3,7 @@
 A span is a file or folder, a crate, a path of Rattle (`crate::module::item`, in that very file), a name of antt, an edit, a
 command, a name of the header, of the package or of the kit, or a line that a program prints. Where its row or sentence has named
 a file or a crate before, or says `name` of `file`, it must be there. What resolves as none of these is told, and so is an
-exception that nothing uses. Besides: the README's map has every crate and folder, and its sample is the listing's.
+exception that nothing uses. Besides: the README's map has every crate and folder, and its samples are the listing's and the page's.
 """
 
 import re
@@ -83,9 +83,9 @@ def complaints_of(document: str) -> Iterator[str]:
 
 
 def of_code(first: int, block: str) -> Iterator[tuple[int, str]]:
-    """A block is of commands, or C with names of the header, or what the sample or file F lists, or an example of the package.
+    """A block is of commands, or C with names of the header, or a listing or page of the sample or of file F, or an example of the package.
 
-    tests/snippets.py runs those of the README, and the reference's tests compare the listing of F.
+    tests/snippets.py runs those of the README, and the reference's tests compare the listing and the page of F.
     """
     lines = [(number, line.strip()) for number, line in enumerate(block.splitlines(), start=first)]
     if is_command(lines[0][1]):
@@ -96,7 +96,7 @@ def of_code(first: int, block: str) -> Iterator[tuple[int, str]]:
     elif lines[0][1].startswith("desk_"):
         names = [(number, name) for number, line in lines for name in re.findall(r"\b(?:desk|DESK)_\w+", line)]
         yield from ((number, f"the header has no {name}") for number, name in names if name not in c_names())
-    elif lines[0][1] not in ("J 9", "J 1") and not is_example(block):
+    elif not lines[0][1].startswith(("J 9", "J 1", "phi  0 ")) and not is_example(block):
         yield first, f"{lines[0][1]}: code that nothing tries"
 
 
@@ -155,19 +155,23 @@ def of_the_map() -> Iterator[str]:
 
 
 def of_the_sample() -> Iterator[str]:
-    """What the README shows of the sample's listing is in it, line by line in that order."""
-    shown = next(block for _, block, is_code in blocks(text_of("README.md")) if is_code and block.strip().startswith("J 9"))
-    rest = text_of("samples/tables-10-11.listing").splitlines()
-    for line in map(str.strip, shown.splitlines()):
-        if line != "..." and line not in rest:
-            yield f"README.md: the sample's listing has no {line!r} there"
-        rest = rest[rest.index(line) + 1:] if line in rest else rest
+    """What the README shows of the sample's listing and of its page is in them, line by line in that order."""
+    shown = [block.strip() for _, block, is_code in blocks(text_of("README.md")) if is_code]
+    for begins, text in (("J 9", "listing"), ("phi  0 ", "page")):
+        rest = text_of(f"samples/tables-10-11.{text}").splitlines()
+        lines = [line.strip() for block in shown if block.startswith(begins) for line in block.splitlines()]
+        if not lines:
+            yield f"README.md: nothing of the sample's {text} is shown"
+        for line in lines:
+            if line != "..." and line not in rest:
+                yield f"README.md: the sample's {text} has no {line!r} there"
+            rest = rest[rest.index(line) + 1:] if line in rest else rest
 
 
 def of_the_letters() -> Iterator[str]:
     """docs/CALLS.md has every letter that the reference takes, and the program takes the same."""
     listed = set(re.findall(r"^\| `(\w)` \|", text_of("docs/CALLS.md"), re.MULTILINE))
-    taken = set(re.findall(r"b'(\w)' =>", text_of("crates/calls/src/main.rt")))
+    taken = set(re.findall(r"b'(\w)' (?:=>|\|)", text_of("crates/calls/src/main.rt")))
     for name, found in (("docs/CALLS.md", listed), ("crates/calls", taken)):
         if found != letters():
             yield f"{name}: the calls are {sorted(letters())}, and not {sorted(found)}"

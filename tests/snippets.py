@@ -3,7 +3,6 @@
 Wants what `./build` and `./run` make. C is left out, with a line that says so, where there is no cc.
 """
 
-import re
 import shutil
 import subprocess
 import sys
@@ -16,6 +15,7 @@ from declared import ROOT, text_of
 from documents import blocks, is_example
 
 SAMPLE = "samples/tables-10-11"
+PRINTED = {f"./run {SAMPLE}.file": f"{SAMPLE}.listing", f"./run --page {SAMPLE}.file": f"{SAMPLE}.page"}
 
 # What the README shows and no test of it runs here.
 ELSEWHERE = {
@@ -39,15 +39,15 @@ int main(int count, char **names) {{
 
 
 def complaint_of_commands(block: str) -> str | None:
-    """Each command ends with status 0; one that lists the sample prints its listing."""
+    """Each command ends with status 0; one that lists the sample prints its listing, and one that pages it its page."""
     for command in map(str.strip, block.splitlines()):
         if command in ELSEWHERE:
             continue
         done = subprocess.run(["bash", "-c", command], cwd=ROOT, capture_output=True, text=True)
         if done.returncode:
             return f"`{command}` ends with status {done.returncode}:\n{done.stdout}{done.stderr}"
-        if command == f"./run {SAMPLE}.file" and done.stdout != text_of(f"{SAMPLE}.listing"):
-            return f"`{command}` prints something else than {SAMPLE}.listing"
+        if command in PRINTED and done.stdout != text_of(PRINTED[command]):
+            return f"`{command}` prints something else than {PRINTED[command]}"
     return None
 
 

@@ -10,6 +10,7 @@ ROOT = Path(__file__).resolve().parent.parent
 sys.path[1:1] = [str(ROOT / "python"), str(ROOT / "reference")]
 
 import layout
+import page
 import reserving_desk
 import session
 from reserving_desk import layout as package_layout
@@ -20,6 +21,7 @@ SPECIFICATION = (ROOT / "docs" / "SPECIFICATION.md").read_text()
 HEADER = (ROOT / "include" / "desk.h").read_text()
 SPECS = ROOT / "crates" / "definitions" / "specs"
 DEFINITIONS = "".join((SPECS / f"{name}.antt").read_text() for name in ("Logarithm", "Refusals", "Sweep", "Machine", "Guarantee"))
+PAGE, LAYOUT = ((SPECS / f"{name}.antt").read_text() for name in ("Page", "Layout"))
 
 # Where the definitions write the numbers that a refusal's words repeat, in the order of the words.
 WRITTEN = {
@@ -55,6 +57,13 @@ def defined(number: int) -> list[int]:
         values = [value(text) for text in match.groups()]
         found += [-values[0], values[0]] if "size" in match.groupdict() else values
     return found
+
+
+def page_length(last: int) -> int:
+    """Of a page by the definitions: so many bytes for each part, and so many parts for each J."""
+    line = re.search(r"^pageLength J = (\d+) \* parts J$", PAGE, re.MULTILINE)[1]
+    times, more = re.search(r"^parts J = (\d+) \* J \+ (\d+)$", LAYOUT, re.MULTILINE).groups()
+    return int(line) * (int(times) * last + int(more))
 
 
 def places() -> dict[int, str]:
@@ -103,7 +112,8 @@ class Refusals(unittest.TestCase):
         wanted = {call.removesuffix("_told"): listed(numbers) for call, numbers in rows}
         comments = re.findall(r"May be refused with ((?:(?!\*/).)*)\*/\n(?:static inline )?\w+ desk_(\w+)\(", HEADER, re.DOTALL)
         self.assertEqual({call: listed(numbers) for numbers, call in comments}, wanted)
-        calls = {call: getattr(reserving_desk.Session, "read_into" if call == "read" else call) for call in wanted}
+        writing = {"read": "read_into", "page": "page_into"}  # of each the method that is lent a buffer
+        calls = {call: getattr(reserving_desk.Session, writing.get(call, call)) for call in wanted}
         told = {call: listed(re.search(r"Refused with (.*)\.", method.__doc__)[1]) for call, method in calls.items()}
         self.assertEqual(told, wanted)
 
@@ -146,6 +156,15 @@ class Limits(unittest.TestCase):
         ):
             self.assertEqual(list(limits), defined(number), number)
 
+    def test_of_a_page(self) -> None:
+        last = value("yearLimit")
+        for j in range(1, last + 1):
+            self.assertEqual([page.page_length(j), package_layout.page_length(j)], [page_length(j)] * 2)
+        line = page_length(0)  # which would be one
+        said = f"A line has {line} bytes, a page has {line}(2J+1) bytes, and the longest, J = {last}, has {page_length(last)} "
+        self.assertIn(said, " ".join(SPECIFICATION.split()))
+        self.assertIn(f"/* a page has {line}(2J+1) bytes */", HEADER)
+
     def test_of_the_package(self) -> None:
         self.assertEqual([package_layout.VERSION], defined(2))
         self.assertEqual([1, package_layout.LARGEST_YEAR], defined(3))
@@ -153,6 +172,7 @@ class Limits(unittest.TestCase):
         self.assertEqual((reserving_desk.PAID, reserving_desk.INCURRED), (layout.PAID, layout.INCURRED))
         self.assertEqual(package_layout.LONGEST_FILE, layout.LONGEST_FILE)
         self.assertEqual(package_layout.LONGEST_RECORD, layout.record_length(layout.LARGEST_YEAR))
+        self.assertEqual(package_layout.LONGEST_PAGE, page_length(layout.LARGEST_YEAR))
 
     def test_of_the_header(self) -> None:
         macros = dict(re.findall(r"^#define (DESK_\w+) (.+?)(?:\s+/\*.*)?$", HEADER, re.MULTILINE))
@@ -167,6 +187,7 @@ class Limits(unittest.TestCase):
             "DESK_MOST_SWEEPS": value("sweepLimit"),
             "DESK_LONGEST_FILE": layout.LONGEST_FILE,
             "DESK_LONGEST_RECORD": layout.record_length(layout.LARGEST_YEAR),
+            "DESK_LONGEST_PAGE": page_length(layout.LARGEST_YEAR),
         })
 
 

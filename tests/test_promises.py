@@ -8,12 +8,14 @@ from declared import text_of
 
 # The record that the contract of each function at the border must be, or what its equation must be with.
 CONTRACTS = {
-    "open": "Opens", "judge": "Judges", "sweep": "Sweeps", "read": "Reads", "figures": "Shows", "close": "stateOf", "empty": "stateOf",
-    "open_lent": "Opens", "judge_lent": "Judges", "sweep_lent": "Sweeps", "read_lent": "Reads", "figures_lent": "Shows",
-    "row": "rowPart", "row_told": "rowCheck",
+    "open": "Opens", "judge": "Judges", "sweep": "Sweeps", "read": "Reads", "page": "Pages", "figures": "Shows", "close": "stateOf",
+    "empty": "stateOf",
+    "open_lent": "Opens", "judge_lent": "Judges", "sweep_lent": "Sweeps", "read_lent": "Reads", "page_lent": "Pages",
+    "figures_lent": "Shows", "row": "rowPart", "row_told": "rowCheck",
     "desk_open_lent": "Opens", "desk_judge_lent": "Judges", "desk_sweep_lent": "Sweeps", "desk_read_lent": "Reads",
-    "desk_figures_lent": "Shows", "desk_close_lent": "Closes", "desk_row": "ShowsRow", "desk_sizes": "recordLength",
-    "list": "listing",
+    "desk_page_lent": "Pages", "desk_figures_lent": "Shows", "desk_close_lent": "Closes", "desk_row": "ShowsRow",
+    "desk_sizes": "recordLength",
+    "list": "listing", "board": "boardPage",
 }
 
 # The examples that document 01 marks with a star ("Figures to agree on").
@@ -21,6 +23,11 @@ STARRED = {
     "log-of-1", "log-of-2^40", "log-of-3", "weight-of-2^18", "weight-of-2^46", "F-accepted", "F-p", "F-q", "F-g", "F-own", "F-matrix",
     "F-right-hand", "zero-residues", "zero-residues-pass", "residue-at-the-bound", "one-tick-passes", "two-ticks-fail", "part-1-fails",
     "part-1-passes-with-e-2",
+}
+
+# Those of document 02's page and of its call, and the listing beside them.
+OF_THE_PAGE = {
+    "F-page", "F-page-closed", "F-page-failing", "F-page-short", "F-page-written", "F-page-behind", "F-board-page", "F-listing",
 }
 
 
@@ -31,9 +38,9 @@ class Promises(unittest.TestCase):
             _, clauses = contract(function)
             self.assertRegex(clauses, rf"(?s)ensures .*\b{CONTRACTS[function[1]]}\b", function)
 
-    def test_starred_cases(self) -> None:
+    def test_cases_of_the_joint_table(self) -> None:
         table = text_of("crates/definitions/specs/JointTable.antt").split("pub record JointTable")[1].split("pub jointTable")[0]
-        self.assertEqual(set(re.findall(r"^  pub (\S+) :", table, re.MULTILINE)), STARRED)
+        self.assertEqual(set(re.findall(r"^  pub (\S+) :", table, re.MULTILINE)), STARRED | OF_THE_PAGE)
 
     def test_every_call_is_in_the_specification(self) -> None:
         for module in ("calls", "state"):
@@ -48,12 +55,15 @@ class Promises(unittest.TestCase):
             "python3 tests/suite.py tests", "python3 tests/documents.py", "python3 tests/believed.py",
             "python3 tests/unused.py", "python3 tests/suite.py reference",
             "python3 reference vectors --check", "python3 tests/edits_across_crates.py", "rt ci |", "python3 tests/compare_programs.py",
-            "python3 tests/run_listings.py", "./build", "tests/c/run", "tests/c/install",
+            "python3 tests/run_vectors.py", "./build", "tests/c/run", "tests/c/install",
             "python3 tests/suite.py python/tests", "python3 tests/snippets.py",
         ):
             self.assertRegex(text_of("test"), rf"(?m)^ *(?:if .*; then )?{re.escape(command)}")
         for step in ("replay", "list", "write"):
             self.assertIn(f'\n{step}\n{step} "${{watched[@]}}"\n', text_of("tests/c/run"))
+        for step in ("desk_test", "spoiled_test"):
+            self.assertRegex(text_of("tests/c/run"), rf'(?m)^\w+=\$\("\$built/{step}"')
+            self.assertIn(f'\n"${{watched[@]}}" "$built/{step}"', text_of("tests/c/run"))
         for step in ("header_test_c", "header_test_cpp"):
             self.assertIn(f'\n"$built/{step}"\n', text_of("tests/c/run"))
 

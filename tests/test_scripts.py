@@ -9,7 +9,10 @@ from declared import crates
 from edits_across_crates import needed_by
 
 MISUSE = {
-    "run": ([], ["one", "two"], ["--file"], ["-x", "one"]),
+    "run": (
+        [], ["one", "two"], ["--file"], ["-x", "one"],
+        ["--page"], ["--page", "one", "two"], ["--page", "--page", "one"], ["--page", "-x"], ["one", "--page"],
+    ),
     "build": (["everything"], ["--install"], ["--install", ""], ["--install", "one", "two"], ["-x"]),
     "test": (["everything"], ["-x"], ["tests", "reference"]),
 }
@@ -47,7 +50,7 @@ class Place(unittest.TestCase):
 
     def test_through_a_link_and_with_a_path_for_cd(self) -> None:
         with checkout() as desk:
-            desk.listing("echo 'J 1'")
+            desk.built("listing", "echo 'J 1'")
             listed = desk.write("a.file", "")
             link = desk.root.parent / "a link"
             link.symlink_to(desk.root / "run")
@@ -74,7 +77,7 @@ class Kit(unittest.TestCase):
     def test_is_not_needed_where_nothing_is_built(self) -> None:
         with checkout() as desk:
             self.assertEqual(desk.run("build").returncode, 0)
-            desk.listing("echo 'J 1'")
+            desk.built("listing", "echo 'J 1'")
             desk.without_kit()
             self.assertEqual(desk.run("build").returncode, 0)
             self.assertEqual(desk.run("run", "-").stdout, "J 1\n")
@@ -108,6 +111,12 @@ class Progress(unittest.TestCase):
                 "run: proved listing (7 s), 3 of 3",
             ])
             self.assertEqual(desk.calls_of_rt(), ["check listing"])
+            said = desk.run("run", "--page", "-").stderr.splitlines()
+            self.assertEqual(said[::3], [
+                "run: proving and building the page program, 3 crates, which takes some minutes",
+                "run: proved board_page (7 s), 3 of 3",
+            ])
+            self.assertEqual(desk.calls_of_rt()[1:], ["check board_page"])
 
     def test_no_crate_is_said_twice(self) -> None:
         with checkout() as desk:
@@ -122,14 +131,16 @@ class Progress(unittest.TestCase):
 
     def test_all_that_rt_said_where_it_fails(self) -> None:
         log = "fn fields: proved\nrt: fields proved (19 s)\nfn chain: proved\nrt: chain NOT PROVED (exit 1, 5 s)\n"
-        for script, words, status, what in (("run", ["-"], 2, "the listing program"), ("build", [], 1, "the library")):
+        for script, words, status, what in (
+            ("run", ["-"], 2, "the listing program"), ("run", ["--page", "-"], 2, "the page program"), ("build", [], 1, "the library"),
+        ):
             with checkout() as desk:
                 done = desk.run(script, *words, REFUSED="chain")
                 self.assertEqual((done.returncode, done.stdout), (status, ""))
                 self.assertTrue(done.stderr.endswith(f", 1 of {3 if script == 'run' else 4}\n{log}{script}: {what} is not proved\n"))
 
     def test_the_crates_of_this_repository_are_counted(self) -> None:
-        for names in (["listing"], ["desk"], ["calls"], ["desk", "calls"]):
+        for names in (["listing"], ["board_page"], ["desk"], ["calls"], ["desk", "calls"]):
             command = f'root={ROOT}; source "$root/scripts/common.sh"; count_crates {" ".join(names)}; echo "$crates"'
             counted = subprocess.run(["bash", "-euo", "pipefail", "-c", command], check=True, capture_output=True, text=True).stdout
             self.assertEqual(int(counted), len({needed for name in names for needed in needed_by(name, crates())}))

@@ -6,6 +6,7 @@
         desk.open(file)
         if desk.sweep().settled:
             mean = desk.read()
+            print(desk.page())
 
 A file is bytes; `file_of` makes one from plain numbers. A call that is refused raises `Refused`, which tells the desk's number and
 place, what the number means, the field, the number that stood there and what is allowed. Parts of a mean are ticks: a doubling has
@@ -20,7 +21,7 @@ from .refusals import Refused
 from .scales import TICKS_PER_DOUBLING, natural_log, squared_ticks, ticks
 from .session import Session
 
-__version__ = "1.1.0"
+__version__ = "1.2.0"
 
 __all__ = [
     "INCURRED", "MOST_SWEEPS", "PAID", "TICKS_PER_DOUBLING",

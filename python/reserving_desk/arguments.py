@@ -8,6 +8,7 @@ from operator import index
 from typing import Any, SupportsIndex, Union
 
 BytesLike = Union[bytes, bytearray, memoryview]
+Buffer = Union[bytearray, memoryview]  # which a call writes into
 
 TRUTH_VALUES = ("bool", "bool_")  # Python's and numpy's, by the names of their types
 
@@ -74,8 +75,8 @@ def lent_bytes(name: str, given: BytesLike) -> bytes:
         raise ValueError(f"{name} cannot be read: {error}") from None
 
 
-def writable_view(name: str, given: Union[bytearray, memoryview]) -> memoryview:
-    """A view of the very buffer, which a call writes into."""
+def writable_view(name: str, given: Buffer) -> memoryview:
+    """A view of the very buffer."""
     try:
         view = memoryview(given)
     except TypeError:

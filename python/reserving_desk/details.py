@@ -2,7 +2,7 @@
 
 from __future__ import annotations
 
-from collections.abc import Iterable
+from collections.abc import Callable, Iterable
 from typing import NamedTuple, Optional
 
 from .arguments import counted
@@ -59,11 +59,12 @@ def refused_sweep(refusal: Refusal, n: int) -> Refused:
     return Refused(refusal.number, refusal.place, *details)
 
 
-def refused_read(refusal: Refusal, size: int, last: int) -> Refused:
+def refused_buffer(refusal: Refusal, size: int, thing: str, length: Callable[[int], int], last: int) -> Refused:
+    """Of a buffer for a thing that has so many bytes for each J."""
     details = Details()
     if refusal.number == 13:
-        wanted = length_of(record_fields(last))
-        sentence = f"the buffer has {counted(size, 'byte')}; with J = {last} a mean record has {wanted}"
+        wanted = length(last)
+        sentence = f"the buffer has {counted(size, 'byte')}; with J = {last} a {thing} has {wanted}"
         details = Details("buffer", size, f"{wanted} bytes or more", sentence)
     return Refused(refusal.number, refusal.place, *details)
 

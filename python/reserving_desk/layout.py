@@ -1,5 +1,5 @@
-"""The fields of a file and of a mean record, in their order, and what the desk accepts in each: sections "The file" and "The mean
-record" of docs/SPECIFICATION.md.
+"""The fields of a file and of a mean record, in their order, what the desk accepts in each, and how long a page is: sections "The
+file", "The mean record" and "The page" of docs/SPECIFICATION.md.
 
 Each kind of field stands here once: the builders write by it, and a refusal is explained by it.
 """
@@ -15,6 +15,7 @@ from .arguments import sequence, whole
 VERSION = 1
 LARGEST_YEAR = 15  # J is at most this
 MOST_SWEEPS = 4_096  # for one open file
+PAGE_LINE = 28  # bytes of a line of a page, its line feed counted
 PAID, INCURRED = 0, 1  # the channels of a row
 CHANNELS = ("paid", "incurred")  # by those numbers
 
@@ -120,10 +121,20 @@ def length_of(fields: Iterable[Field]) -> int:
     return sum(field.kind.width for field in fields)
 
 
+def record_length(last: int) -> int:
+    return length_of(record_fields(last))
+
+
+def page_length(last: int) -> int:
+    """A line for each part."""
+    return PAGE_LINE * len(part_names(last))
+
+
 HEADER_LENGTH = length_of(HEADER)
 FILE_HEADER_LENGTH = length_of(FILE_HEADER)
 LONGEST_FILE = length_of(file_fields(LARGEST_YEAR))
-LONGEST_RECORD = length_of(record_fields(LARGEST_YEAR))
+LONGEST_RECORD = record_length(LARGEST_YEAR)
+LONGEST_PAGE = page_length(LARGEST_YEAR)
 
 
 def placed(fields: Iterable[Field]) -> Iterator[tuple[int, Field]]:

@@ -65,13 +65,15 @@ class Sizes(Structure):
 
 SESSION: list[Any] = [POINTER(field) for field in SESSION_FIELDS.values()]
 LENT: list[Any] = [c_char_p, c_size_t]
+BUFFER: list[Any] = [POINTER(c_uint8), c_size_t]
 
 # By name: the answer and the parameters.
 FUNCTIONS: dict[str, tuple[Optional[type[Structure]], list[Any]]] = {
     "desk_open_lent": (Refusal, SESSION + LENT),
     "desk_judge_lent": (Judged, SESSION + LENT),
     "desk_sweep_lent": (Swept, SESSION + [c_uint64]),
-    "desk_read_lent": (Refusal, SESSION + [POINTER(c_uint8), c_size_t]),
+    "desk_read_lent": (Refusal, SESSION + BUFFER),
+    "desk_page_lent": (Refusal, SESSION + BUFFER),
     "desk_figures_lent": (System, SESSION),
     "desk_row": (Shown, LENT + [c_uint64, c_uint64]),
     "desk_close_lent": (None, SESSION[:1]),

@@ -17,7 +17,7 @@ WORDS = {
     10: "the oldest accident year must end with the same amount paid as incurred",
     11: "each part of a mean must be from -2^26 to 2^26 ticks",
     12: "the number of sweeps must be from 1 to 4,096",
-    13: "the buffer has no room for the mean record",
+    13: "the buffer is too short for what is to be written",
     14: "the channel must be 0 (paid) or 1 (incurred)",
     15: "the file has no such accident year",
     16: "the diagonal of the matrix has a zero",

@@ -3,14 +3,15 @@
 from __future__ import annotations
 
 import threading
+from collections.abc import Callable
 from ctypes import Array, c_uint8
 from types import TracebackType
-from typing import Any, NoReturn, Optional, SupportsIndex, Union
+from typing import Any, NoReturn, Optional, SupportsIndex
 
 from .answers import Figures, Judgement, Sweeping
-from .arguments import BytesLike, lent_bytes, not_negative, whole, writable_view
-from .details import refused_file, refused_read, refused_record, refused_row, refused_state, refused_sweep
-from .layout import AMOUNT, LONGEST_RECORD, MOST_SWEEPS, Mean, mean_of
+from .arguments import Buffer, BytesLike, lent_bytes, not_negative, whole, writable_view
+from .details import refused_buffer, refused_file, refused_record, refused_row, refused_state, refused_sweep
+from .layout import AMOUNT, LONGEST_PAGE, LONGEST_RECORD, MOST_SWEEPS, Mean, mean_of, page_length, record_length
 from .library import ROW_LENGTH, SESSION_FIELDS, library_path, load
 
 LARGEST_NUMBER = (1 << 64) - 1  # that the library can be handed
@@ -63,17 +64,22 @@ class Session:
         self.read_into(buffer)
         return mean_of(bytes(buffer[:int.from_bytes(buffer[:4], "big")]))
 
-    def read_into(self, buffer: Union[bytearray, memoryview]) -> None:
+    def read_into(self, buffer: Buffer) -> None:
         """Writes the record of the mean at the front of a buffer; the bytes behind are untouched. Refused with 21, 24, 13."""
-        with writable_view("buffer", buffer) as view:
-            size = view.nbytes
-            lent = (c_uint8 * size).from_buffer(view)
-            with self._one_at_a_time:
-                refusal = self._library.desk_read_lent(*self._fields, lent, size)
-                last = self._last()
-            del lent  # which would keep the buffer's size fixed
-        if refusal.number:
-            raise refused_read(refusal, size, last)
+        self._write(self._library.desk_read_lent, buffer, "mean record", record_length)
+
+    def page(self) -> str:
+        """The mean that is held, which passes, as a page: a line of 28 characters for each part, its line feed counted.
+
+        A line has the part's name, its index, its mean and its own weight, each in its columns. Refused with 21, 24.
+        """
+        buffer = bytearray(LONGEST_PAGE)
+        self.page_into(buffer)
+        return buffer.rstrip(b"\0").decode("ascii")  # no page has a zero
+
+    def page_into(self, buffer: Buffer) -> None:
+        """Writes the page of the mean at the front of a buffer; the bytes behind are untouched. Refused with 21, 24, 13."""
+        self._write(self._library.desk_page_lent, buffer, "page", page_length)
 
     def figures(self) -> Figures:
         """The linear system that judges every mean of the open file, for a solver of one's own.
@@ -112,6 +118,18 @@ class Session:
         """Empties the session, which can be opened again; never refused."""
         with self._one_at_a_time:
             self._library.desk_close_lent(self._fields[0])
+
+    def _write(self, call: Callable[..., Any], buffer: Buffer, thing: str, length: Callable[[int], int]) -> None:
+        """Has a call of the library write a thing, of so many bytes for each J, into the very buffer."""
+        with writable_view("buffer", buffer) as view:
+            size = view.nbytes
+            lent = (c_uint8 * size).from_buffer(view)
+            with self._one_at_a_time:
+                refusal = call(*self._fields, lent, size)
+                last = self._last()
+            del lent  # which would keep the buffer's size fixed
+        if refusal.number:
+            raise refused_buffer(refusal, size, thing, length, last)
 
     def _last(self) -> int:
         """J of the file that is open, for the words of a refusal."""

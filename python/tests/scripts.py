@@ -9,6 +9,7 @@ import paths  # noqa: F401
 from reserving_desk import Figures, Refused, Session
 
 LENT_BYTE = b"\xa5"  # what a lent buffer is filled with
+WRITING = {b"r": ("read", Session.read_into), b"p": ("page", Session.page_into)}  # the calls that are lent one
 
 
 class Changed(AssertionError):
@@ -21,16 +22,15 @@ def answers(script: bytes) -> Iterator[str]:
     with Session() as session:
         while letter := source.read(1):
             before = contents(session)
-            buffer = LENT_BYTE * _number(source) if letter == b"r" else b""
-            changed = bytearray(buffer)
+            buffer = bytearray(LENT_BYTE * _number(source)) if letter in WRITING else bytearray()
             try:
-                yield from _answer(letter, source, session, changed).splitlines()
+                yield from _answer(letter, source, session, buffer).splitlines()
             except Refused as refused:
                 if contents(session) != before:
                     raise Changed(f"by a call that is {refused}") from refused
                 yield f"refused {refused.number} at {refused.place}"
-            if letter == b"r":
-                yield f"buffer {changed.hex()}"
+            if letter in WRITING:
+                yield f"buffer {buffer.hex()}"
 
 
 def contents(session: Session) -> bytes:
@@ -48,9 +48,10 @@ def _answer(letter: bytes, source: BytesIO, session: Session, buffer: bytearray)
     if letter == b"s":
         swept = session.sweep(_number(source))
         return f"{'settled' if swept.settled else 'going'} {swept.total}"
-    if letter == b"r":
-        session.read_into(buffer)
-        return "read"
+    if letter in WRITING:
+        answer, write = WRITING[letter]
+        write(session, buffer)
+        return answer
     if letter == b"f":
         return _system(session.figures())
     if letter == b"w":

@@ -8,13 +8,11 @@ from fractions import Fraction
 from math import inf, nan
 from typing import Any
 
-from refusing import F, opened
+from refusing import RECORD_OF_F, WRITING, F, opened
 
 import samples
-from layout import build_record
 from reserving_desk import Mean, Prior, Session, file_of, natural_log, record_of, squared_ticks, ticks
 
-RECORD = build_record(samples.file_f().prior_means)
 NOT_WHOLE: tuple[Any, ...] = (1.5, 1.0, "1", None, True, False, Fraction(1), Decimal(1), [1], b"1")
 
 
@@ -73,8 +71,9 @@ class OfCalls(Named):
             self.assert_told(TypeError, f"file must be bytes, or a buffer of bytes, not {shown}", desk.row, wrong, 0, 0)
             self.assert_told(TypeError, f"record must be bytes, or a buffer of bytes, not {shown}", desk.judge, wrong)
             wanted = "a buffer that can be written, as a bytearray"
-            self.assert_told(TypeError, f"buffer must be {wanted}, not {shown}", desk.read_into, wrong)
-        self.assertTrue(desk.judge(RECORD))  # none of them changed the session
+            for write, _ in WRITING:
+                self.assert_told(TypeError, f"buffer must be {wanted}, not {shown}", write, desk, wrong)
+        self.assertTrue(desk.judge(RECORD_OF_F))  # none of them changed the session
 
     def test_long_arguments_are_shown_in_short(self) -> None:
         with self.assertRaises(TypeError) as caught:
@@ -84,23 +83,26 @@ class OfCalls(Named):
     def test_released_views(self) -> None:
         view = memoryview(bytearray(200))
         view.release()
-        for call, name in ((opened().judge, "record cannot be read: "), (opened().read_into, "buffer cannot be written: ")):
-            with self.assertRaisesRegex(ValueError, f"^{name}"):
-                call(view)
+        with self.assertRaisesRegex(ValueError, "^record cannot be read: "):
+            opened().judge(view)
+        for write, _ in WRITING:
+            with self.assertRaisesRegex(ValueError, "^buffer cannot be written: "):
+                write(opened(), view)
 
     def test_buffers(self) -> None:
         desk = opened()
-        bare = bytearray(80)
-        for wrong in (bytes(40), memoryview(bytes(40)), memoryview(bare).toreadonly()):
-            with self.assertRaisesRegex(TypeError, "^buffer must be a buffer that can be written, as a bytearray, not "):
-                desk.read_into(wrong)  # type: ignore[arg-type]
-        for view in (memoryview(bare)[::2], memoryview(bare)[::-1]):
-            with self.assertRaisesRegex(TypeError, "^buffer must be contiguous, not a view that leaves bytes out"):
-                desk.read_into(view)
-        self.assertEqual(bare, bytes(80))
-        numbers: Any = array("q", [0] * 10)
-        desk.read_into(numbers)
-        self.assertEqual(numbers.tobytes(), RECORD + bytes(80 - len(RECORD)))
+        bare = bytearray(200)
+        for write, written in WRITING:
+            for wrong in (bytes(100), memoryview(bytes(100)), memoryview(bare).toreadonly()):
+                with self.assertRaisesRegex(TypeError, "^buffer must be a buffer that can be written, as a bytearray, not "):
+                    write(desk, wrong)  # type: ignore[arg-type]
+            for view in (memoryview(bare)[::2], memoryview(bare)[::-1]):
+                with self.assertRaisesRegex(TypeError, "^buffer must be contiguous, not a view that leaves bytes out"):
+                    write(desk, view)
+            self.assertEqual(bare, bytes(200))
+            numbers: Any = array("q", [0] * 25)
+            write(desk, numbers)
+            self.assertEqual(numbers.tobytes(), written + bytes(200 - len(written)))
 
 
 class OfMeans(Named):

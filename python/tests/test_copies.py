@@ -9,7 +9,7 @@ from concurrent.futures import ProcessPoolExecutor
 from multiprocessing import get_context
 
 import scripts
-from refusing import F, opened, refusal_of
+from refusing import PAGE_OF_F, F, opened, refusal_of
 
 import samples
 from layout import build_file, build_record
@@ -41,11 +41,12 @@ class Copies(unittest.TestCase):
             self.assertEqual(twin.sweep(3), Sweeping(False, 3))
             self.assertEqual(desk.sweep(1), Sweeping(False, 1))
             twin.close()
-            self.assertEqual(refusal_of(twin.read).number, 21)
+            self.assertEqual([refusal_of(call).number for call in (twin.read, twin.page)], [21, 21])
             self.assertEqual(desk.sweep(1).total, 2)
             twin.open(F)
             desk.close()
             self.assertEqual(twin.read().parts, samples.file_f().prior_means)
+            self.assertEqual(twin.page().encode(), PAGE_OF_F)
 
     def test_of_an_empty_session(self) -> None:
         for copied in COPIES:
@@ -98,7 +99,7 @@ class Answers(unittest.TestCase):
 
     def test_pickled_and_copied(self) -> None:
         desk = opened()
-        answers = (desk.judge(build_record((0, 0, 0))), desk.sweep(), desk.read(), desk.figures())
+        answers = (desk.judge(build_record((0, 0, 0))), desk.sweep(), desk.read(), desk.page(), desk.figures())
         for answer in answers:
             for same in (pickle.loads(pickle.dumps(answer)), copy.copy(answer), copy.deepcopy(answer)):
                 self.assertEqual((type(same), same), (type(answer), answer))

@@ -31,6 +31,7 @@ with reserving_desk.Session() as desk:
     total = desk.sweep().total
     mean = desk.read()
     assert desk.figures().last == len(mean.psi)
+    assert desk.page().count("\\n") == len(mean.parts)
 print("J", len(mean.psi))
 print("sweeps", total)
 for name in ("phi", "psi"):
@@ -142,7 +143,7 @@ class Built(unittest.TestCase):
 
     def test_with_the_library_of_now(self) -> None:
         """Also where it was another one before, and where its name is a link."""
-        real = self.library.with_name("libdesk.so.1.1.0")
+        real = self.library.with_name(f"libdesk.so.{__version__}")
         self.library.symlink_to(real.name)
         for content in (b"one", b"another"):
             real.write_bytes(content)

@@ -42,6 +42,12 @@ class Library(unittest.TestCase):
             with self.assertRaisesRegex(LibraryMissing, r"no library /nowhere/libdesk.so: run \./build"):
                 Session()
 
+    def test_one_that_lacks_a_call(self) -> None:
+        """As an older one does."""
+        with mock.patch.dict(package.FUNCTIONS, {"desk_later_lent": (None, [])}):
+            with self.assertRaisesRegex(LibraryMissing, r"is not the desk's library: run \./build .*desk_later_lent"):
+                package.load.__wrapped__(library_path())
+
     def test_something_else(self) -> None:
         with mock.patch.dict(os.environ, {VARIABLE: __file__}):
             with self.assertRaisesRegex(LibraryMissing, r"is not the desk's library: run \./build"):

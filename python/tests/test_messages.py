@@ -3,16 +3,15 @@
 import unittest
 from collections.abc import Callable
 
-from refusing import F, opened, refusal_of
+from refusing import RECORD_OF_F, F, opened, refusal_of
 
 import damage
 import layout
-import samples
+import page
 from layout import build_record
 from reserving_desk import Session
 from reserving_desk import layout as package
 
-RECORD = build_record(samples.file_f().prior_means)
 LENGTH = "shorter than a header (10 bytes of a file, 5 of a mean record), or not as long as its length field says"
 VARIANCE = "a variance of sigma or tau must be from 2^18 to 2^40 squared ticks"
 VARIANCES = "262,144 to 1,099,511,627,776, a standard deviation from 0.00034 to 0.69"
@@ -80,8 +79,8 @@ class OfOtherArguments(unittest.TestCase):
         desk = opened()
         for record, said in (
             (b"123", f"refused 1 at 0: {LENGTH} (the mean record has 3 bytes, and its header alone has 5)"),
-            (RECORD[:-1], f"refused 1 at 0: {LENGTH} (the length field says 17 bytes, and the mean record has 16 bytes)"),
-            (damage.put(RECORD, 4, 7, 1), "refused 2 at 4: the version of the format must be 1 (the version is 7; allowed is 1)"),
+            (RECORD_OF_F[:-1], f"refused 1 at 0: {LENGTH} (the length field says 17 bytes, and the mean record has 16 bytes)"),
+            (damage.put(RECORD_OF_F, 4, 7, 1), "refused 2 at 4: the version of the format must be 1 (the version is 7; allowed is 1)"),
             (
                 build_record((0,) * 5),
                 "refused 4 at 0: the length does not suit the number of development years "
@@ -107,9 +106,13 @@ class OfOtherArguments(unittest.TestCase):
         self.assert_said(lambda: desk.row(F, 0, 2), f"refused 15 at 0: the file has no such accident year ({said})")
 
     def test_buffer(self) -> None:
+        words = "refused 13 at 0: the buffer is too short for what is to be written"
         said = "the buffer has 16 bytes; with J = 1 a mean record has 17"
-        self.assert_said(lambda: opened().read_into(bytearray(16)), f"refused 13 at 0: the buffer has no room for the mean record ({said})")
+        self.assert_said(lambda: opened().read_into(bytearray(16)), f"{words} ({said})")
         self.assertEqual(refusal_of(lambda: opened().read_into(bytearray(1))).limits, "17 bytes or more")
+        said = "the buffer has 1 byte; with J = 1 a page has 84"
+        self.assert_said(lambda: opened().page_into(bytearray(1)), f"{words} ({said})")
+        self.assertEqual(refusal_of(lambda: opened().page_into(bytearray(83))).limits, "84 bytes or more")
 
 
 class Limits(unittest.TestCase):
@@ -134,7 +137,8 @@ class Limits(unittest.TestCase):
     def test_lengths(self) -> None:
         for last in range(1, layout.LARGEST_YEAR + 1):
             self.assertEqual(package.length_of(package.file_fields(last)), layout.file_length(last))
-            self.assertEqual(package.length_of(package.record_fields(last)), layout.record_length(last))
+            self.assertEqual(package.record_length(last), layout.record_length(last))
+            self.assertEqual(package.page_length(last), page.page_length(last))
 
 
 if __name__ == "__main__":

@@ -28,6 +28,8 @@ EXAMPLES: dict[str, Callable[[Session], object]] = {
     "sweep": lambda desk: desk.sweep(1),
     "read": lambda desk: desk.read(),
     "read_into": lambda desk: desk.read_into(bytearray(40)),
+    "page": lambda desk: desk.page(),
+    "page_into": lambda desk: desk.page_into(bytearray(100)),
     "figures": lambda desk: desk.figures(),
     "row": lambda desk: desk.row(FILE, 0, 0),
     "close": lambda desk: desk.close(),

@@ -77,6 +77,7 @@ class ByNumber(unittest.TestCase):
             ((12, "n", 0), lambda: opened(FILE).sweep(0)),
             ((12, "n", -(1 << 70)), lambda: opened(FILE).sweep(-(1 << 70))),
             ((13, "buffer", 16), lambda: opened(F).read_into(bytearray(16))),
+            ((13, "buffer", 83), lambda: opened(F).page_into(bytearray(83))),
             ((14, "channel", 2), lambda: Session().row(FILE, 2, LAST + 1)),
             ((14, "channel", 1 << 70), lambda: Session().row(FILE, 1 << 70, 0)),
             ((15, "accident year", LAST + 1), lambda: Session().row(FILE, 1, LAST + 1)),
@@ -89,10 +90,13 @@ class ByNumber(unittest.TestCase):
         spent = opened(build_file(samples.spent_at_a_limit()))
         spent.sweep()
         calls: dict[int, tuple[Callable[[], object], ...]] = {
-            21: (lambda: Session().judge(RECORD), lambda: Session().sweep(0), Session().read, lambda: Session().judge(b"")),
+            21: (
+                lambda: Session().judge(RECORD), lambda: Session().judge(b""), lambda: Session().sweep(0),
+                Session().read, lambda: Session().read_into(bytearray()), Session().page, lambda: Session().page_into(bytearray()),
+            ),
             22: (lambda: spent.open(FILE), lambda: spent.open(b"")),
             23: (spent.sweep,),
-            24: (spent.read, lambda: spent.read_into(bytearray())),
+            24: (spent.read, lambda: spent.read_into(bytearray()), spent.page, lambda: spent.page_into(bytearray())),
         }
         for number, refused_calls in calls.items():
             for refused in map(refusal_of, refused_calls):

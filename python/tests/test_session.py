@@ -8,6 +8,7 @@ from typing import Any
 
 import scripts
 from paths import ROOT
+from refusing import WRITING, opened, refusal_of
 
 import layout
 import samples
@@ -71,25 +72,39 @@ class Lent(unittest.TestCase):
                 self.assertEqual(desk.judge(bytearray(build_record(SETTLED))), Judgement(True, None))
 
     def test_buffer(self) -> None:
-        desk = Session()
-        desk.open(F)
-        record = build_record(SETTLED)
-        for size in (len(record), len(record) + 1, 40):
-            buffer = bytearray(scripts.LENT_BYTE * size)
-            desk.read_into(memoryview(buffer))
-            self.assertEqual(buffer, record + scripts.LENT_BYTE * (size - len(record)))
-            buffer.append(0)  # nothing holds on to it
+        desk = opened()
+        for write, written in WRITING:
+            for size in (len(written), len(written) + 1, 200):
+                buffer = bytearray(scripts.LENT_BYTE * size)
+                write(desk, memoryview(buffer))
+                self.assertEqual(buffer, written + scripts.LENT_BYTE * (size - len(written)))
+                buffer.append(0)  # nothing holds on to it
+
+    def test_a_refused_buffer_is_untouched(self) -> None:
+        """21, 24 and 13, in that order: each is refused with the first, also where the buffer is too short besides."""
+        spent = build_file(samples.spent_at_a_limit())
+        for write, written in WRITING:
+            for number, desk, longest in ((21, Session(), 200), (24, opened(spent), 200), (13, opened(), len(written) - 1)):
+                for size in {0, 1, len(written) - 1, longest}:
+                    buffer = bytearray(scripts.LENT_BYTE * size)
+                    self.assertEqual(refusal_of(lambda: write(desk, buffer)).number, number)
+                    self.assertEqual(buffer, scripts.LENT_BYTE * size)
 
     def test_a_buffer_that_is_too_short_can_be_made_longer(self) -> None:
-        desk = Session()
-        desk.open(F)
-        buffer = bytearray()
-        with self.assertRaises(Refused) as caught:
-            desk.read_into(buffer)
-        self.assertEqual(caught.exception.number, 13)
-        buffer.extend(bytes(17))  # while the refusal, and what it holds on to, is there
-        desk.read_into(buffer)
-        self.assertEqual(buffer, build_record(SETTLED))
+        desk = opened()
+        for write, written in WRITING:
+            buffer = bytearray()
+            refused = refusal_of(lambda: write(desk, buffer))  # unlike assertRaises it keeps the frames
+            buffer.extend(bytes(len(written)))  # while the refusal, and what it holds on to, is there
+            self.assertEqual(refused.number, 13)
+            write(desk, buffer)
+            self.assertEqual(buffer, written)
+
+    def test_a_part_of_a_buffer(self) -> None:
+        for write, written in WRITING:
+            buffer = bytearray(scripts.LENT_BYTE * 200)
+            write(opened(), memoryview(buffer)[7:7 + len(written)])
+            self.assertEqual(buffer, scripts.LENT_BYTE * 7 + written + scripts.LENT_BYTE * (193 - len(written)))
 
 
 class Numbers(unittest.TestCase):

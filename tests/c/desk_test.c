@@ -1,20 +1,26 @@
-/* The C interface, call by call: answers, numbers and places of refusals, what a refusal leaves unchanged, null with length 0,
- * sizes, and sessions of arbitrary bytes. Expected numbers are the specification's; those of the sample and of the file that never
- * settles are the reference's. Arguments: the sample's file and its listing. */
+/* The C interface, call by call: answers, numbers and places of refusals, what a refusal leaves unchanged, null with length 0, and
+ * sizes. Expected numbers are the specification's; those of the sample and of the file that never settles are the reference's.
+ * Arguments: the sample's file, its listing and its page. */
 #include "support.h"
 
-static desk_judgement judged(const desk_session *s, int64_t phi_0, int64_t phi_1, int64_t psi_0) {
-    const int64_t parts[3] = {phi_0, phi_1, psi_0};
-    uint8_t record[F_RECORD];
-    const desk_session before = *s;
-    const desk_judgement answer = desk_judge(s, record, record_of(record, parts, 3));
-    EXPECT(memcmp(&before, s, sizeof before) == 0);
-    return answer;
-}
+/* The calls that write into a lent buffer, and what each writes for F. */
+typedef desk_refusal writing(const desk_session *s, uint8_t *buffer, size_t length);
+static const struct { writing *call; size_t length; const char *written; } WRITING[] = {
+    {desk_read, F_RECORD, "\0\0\0\x11\1\0\xA0\0\0\0\x10\0\0\xFF\xF0\0\0"},
+    {desk_page, F_PAGE, "phi  0  10485760     131073\nphi  1   1048576      65537\npsi  0  -1048576      65537\n"},
+};
 
-static void expect_passed(desk_judgement answer) {
-    EXPECT_DONE(answer.refusal);
-    EXPECT(answer.passed == 1);
+/* They are refused so, with room and without, and leave the buffer as it was. */
+static void expect_writing_refused(const desk_session *s, uint64_t number) {
+    uint8_t buffer[DESK_LONGEST_PAGE], untouched[DESK_LONGEST_PAGE];
+    memset(buffer, 0xA5, sizeof buffer);
+    memset(untouched, 0xA5, sizeof untouched);
+    for (size_t k = 0; k < COUNT(WRITING); k++) {
+        EXPECT_REFUSED(s, WRITING[k].call(s, buffer, sizeof buffer), number, 0);
+        EXPECT_REFUSED(s, WRITING[k].call(s, buffer, 1), number, 0);
+        EXPECT_REFUSED(s, WRITING[k].call(s, NULL, 0), number, 0);
+    }
+    EXPECT(memcmp(buffer, untouched, sizeof buffer) == 0);
 }
 
 static void expect_fails(desk_judgement answer, uint64_t part) {
@@ -149,17 +155,14 @@ static void test_limits_are_taken(void) {
 static void test_nothing_open(void) {
     desk_session s = DESK_EMPTY;
     for (int closed = 0; closed <= 1; closed++) { /* a new session, then one that was closed */
-        uint8_t buffer[F_RECORD] = {0}, untouched[F_RECORD] = {0};
         const int64_t parts[3] = {0, 0, 0};
         uint8_t record[F_RECORD];
         EXPECT_REFUSED(&s, desk_judge(&s, record, record_of(record, parts, 3)).refusal, 21, 0);
         EXPECT_REFUSED(&s, desk_judge(&s, NULL, 0).refusal, 21, 0);
         EXPECT_REFUSED(&s, desk_sweep(&s, 1).refusal, 21, 0);
         EXPECT_REFUSED(&s, desk_sweep(&s, 0).refusal, 21, 0);
-        EXPECT_REFUSED(&s, desk_read(&s, buffer, sizeof buffer), 21, 0);
-        EXPECT_REFUSED(&s, desk_read(&s, NULL, 0), 21, 0);
+        expect_writing_refused(&s, 21);
         EXPECT_REFUSED(&s, desk_figures(&s).refusal, 21, 0);
-        EXPECT(memcmp(buffer, untouched, sizeof buffer) == 0);
         s = opened_f(1);
         desk_close(&s);
     }
@@ -209,7 +212,7 @@ static void test_numbers_of_sweeps_refused(void) {
 }
 
 static void test_spent(void) {
-    uint8_t file[F_LENGTH], buffer[64], untouched[64];
+    uint8_t file[F_LENGTH];
     file_that_never_settles(file);
     desk_session s = opened(file, sizeof file);
     uint64_t total = 0;
@@ -221,29 +224,30 @@ static void test_spent(void) {
     }
     EXPECT_REFUSED(&s, desk_sweep(&s, 1).refusal, 23, 0);
     EXPECT_REFUSED(&s, desk_sweep(&s, 0).refusal, 12, 0);
-    memset(buffer, 0xA5, sizeof buffer);
-    memcpy(untouched, buffer, sizeof buffer);
-    EXPECT_REFUSED(&s, desk_read(&s, buffer, sizeof buffer), 24, 0);
-    EXPECT_REFUSED(&s, desk_read(&s, NULL, 0), 24, 0);
-    EXPECT(memcmp(buffer, untouched, sizeof buffer) == 0);
+    expect_writing_refused(&s, 24);
 }
 
-static void test_read(void) {
-    const desk_session s = opened_f(1);
-    const int64_t parts[3] = {10 * T, T, -T};
-    for (size_t size = 0; size <= 40; size++) {
-        uint8_t buffer[40], expected[40];
-        memset(buffer, 0xA5, sizeof buffer);
-        memset(expected, 0xA5, sizeof expected);
-        if (size >= F_RECORD) {
-            record_of(expected, parts, 3);
-            EXPECT_DONE(desk_read(&s, buffer, size));
-        } else {
-            EXPECT_REFUSED(&s, desk_read(&s, buffer, size), 13, 0);
-        }
-        EXPECT(memcmp(buffer, expected, sizeof buffer) == 0);
+static void expect_written(writing *call, size_t length, const char *written, size_t size) {
+    const desk_session s = opened_f(1), before = s;
+    uint8_t buffer[128], expected[128];
+    memset(buffer, 0xA5, sizeof buffer);
+    memset(expected, 0xA5, sizeof expected);
+    if (size >= length) {
+        memcpy(expected, written, length);
+        EXPECT_DONE(call(&s, buffer, size));
+        EXPECT(memcmp(&before, &s, sizeof s) == 0);
+    } else {
+        EXPECT_REFUSED(&s, call(&s, buffer, size), 13, 0);
     }
-    EXPECT_REFUSED(&s, desk_read(&s, NULL, 0), 13, 0);
+    EXPECT(memcmp(buffer, expected, sizeof buffer) == 0);
+}
+
+static void test_buffers(void) {
+    const desk_session s = opened_f(1);
+    for (size_t k = 0; k < COUNT(WRITING); k++) {
+        for (size_t size = 0; size <= 128; size++) expect_written(WRITING[k].call, WRITING[k].length, WRITING[k].written, size);
+        EXPECT_REFUSED(&s, WRITING[k].call(&s, NULL, 0), 13, 0);
+    }
 }
 
 static void expect_row(const uint8_t *file, size_t length, uint64_t channel, uint64_t year, uint64_t start, uint64_t bytes) {
@@ -285,7 +289,16 @@ static size_t parts_of_listing(const char *name, uint64_t *last, uint64_t *sweep
     return count;
 }
 
-static void test_sample(const char *sample, const char *listing) {
+/* As the reference made it. */
+static void expect_page(const desk_session *s, const char *name) {
+    uint8_t page[DESK_LONGEST_PAGE + 1], buffer[DESK_LONGEST_PAGE];
+    const size_t length = contents(name, page, sizeof page);
+    EXPECT_REFUSED(s, desk_page(s, buffer, length - 1), 13, 0);
+    EXPECT_DONE(desk_page(s, buffer, length));
+    EXPECT(memcmp(buffer, page, length) == 0);
+}
+
+static void test_sample(const char *sample, const char *listing, const char *page) {
     static uint8_t file[LONGEST_FILE + 1];
     uint64_t last, sweeps;
     int64_t parts[31];
@@ -294,7 +307,7 @@ static void test_sample(const char *sample, const char *listing) {
     const size_t record_length = record_of(record, parts, parts_of_listing(listing, &last, &sweeps, parts));
     desk_session s = opened(file, length);
     for (uint64_t total = 1; total <= sweeps; total++) {
-        EXPECT_REFUSED(&s, desk_read(&s, buffer, sizeof buffer), 24, 0);
+        expect_writing_refused(&s, 24);
         const desk_sweeping swept = desk_sweep(&s, 1);
         EXPECT_DONE(swept.refusal);
         EXPECT(swept.total == total && swept.settled == (total == sweeps));
@@ -302,6 +315,7 @@ static void test_sample(const char *sample, const char *listing) {
     expect_passed(desk_judge(&s, record, record_length));
     EXPECT_DONE(desk_read(&s, buffer, sizeof buffer));
     EXPECT(memcmp(buffer, record, record_length) == 0);
+    expect_page(&s, page);
     uint64_t start = 10 + 20 * (2 * last + 1); /* the paid block, and behind it the incurred one */
     for (uint64_t channel = DESK_PAID; channel <= DESK_INCURRED; channel++) {
         for (uint64_t year = 0; year <= last; start += 8 * (last - year + 1), year++) {
@@ -311,73 +325,9 @@ static void test_sample(const char *sample, const char *listing) {
     EXPECT(start == length);
 }
 
-static uint64_t drawn(void) { /* xorshift: the same numbers in every run */
-    static uint64_t state = 88172645463325252;
-    state ^= state << 13;
-    state ^= state >> 7;
-    return state ^= state << 17;
-}
-
-static int is_one_of(uint64_t number, const uint64_t *numbers) { /* which a 0 ends: the call may also do its job */
-    while (*numbers != 0 && *numbers != number) numbers++;
-    return *numbers == number;
-}
-
-/* Every call on a session that no call has made: it answers, and changes nothing where it is refused. */
-static void expect_answers(desk_session *s) {
-    static const uint64_t JUDGE[] = {21, 4, 0}, SWEEP[] = {21, 23, 0}, READ[] = {21, 24, 0}, OPEN[] = {22, 0};
-    uint8_t file[F_LENGTH], record[F_RECORD], buffer[DESK_LONGEST_RECORD];
-    const int64_t parts[3] = {MOST_PART, -MOST_PART, 0};
-    file_f(file, 1);
-    desk_session before = *s;
-    EXPECT(is_one_of(desk_judge(s, record, record_of(record, parts, 3)).refusal.number, JUDGE));
-    EXPECT(is_one_of(desk_read(s, buffer, sizeof buffer).number, READ));
-    EXPECT((desk_figures(s).refusal.number == 21) == (desk_sweep(s, 0).refusal.number == 21));
-    EXPECT(memcmp(&before, s, sizeof before) == 0);
-    const desk_sweeping swept = desk_sweep(s, drawn() % DESK_MOST_SWEEPS + 1);
-    EXPECT(is_one_of(swept.refusal.number, SWEEP));
-    EXPECT(swept.refusal.number == 0 || memcmp(&before, s, sizeof before) == 0);
-    before = *s;
-    const desk_refusal refusal = desk_open(s, file, sizeof file);
-    EXPECT(is_one_of(refusal.number, OPEN));
-    EXPECT(refusal.number == 0 || memcmp(&before, s, sizeof before) == 0);
-    desk_close(s);
-    EXPECT_REFUSED(s, desk_sweep(s, 1).refusal, 21, 0);
-    EXPECT_DONE(desk_open(s, file, sizeof file));
-    expect_passed(judged(s, 10 * T, T, -T));
-}
-
-static void test_arbitrary_sessions(void) {
-    desk_session s;
-    uint8_t *bytes = (uint8_t *)&s;
-    for (int value = 0; value <= 0xFF; value++) {
-        memset(&s, value, sizeof s);
-        expect_answers(&s);
-    }
-    for (int round = 0; round < 200; round++) { /* drawn bytes, with heads from none right to all right */
-        for (size_t k = 0; k < sizeof s; k++) bytes[k] = (uint8_t)drawn();
-        if (round % 2) s.held[0] = drawn() % 18;
-        if (round % 3) s.held[1] = drawn() % 65538;
-        if (round % 5) s.held[2] = drawn() % 4098;
-        expect_answers(&s);
-    }
-    for (int round = 0; round < 200; round++) { /* an open session with a byte changed */
-        s = opened_f(1 + drawn() % 65536);
-        bytes[drawn() % sizeof s] ^= (uint8_t)(1 + drawn() % 255);
-        expect_answers(&s);
-    }
-    for (int round = 0; round < 200; round++) { /* one of the fields in use at an extreme */
-        s = opened_f(1);
-        int64_t *fields[] = {&s.matrix[drawn() % 65], &s.right_hand[drawn() % 3], &s.mean[drawn() % 3]};
-        *fields[round % 3] = round % 2 ? INT64_MIN : INT64_MAX;
-        s.own[drawn() % 3] = round % 7 ? s.own[0] : UINT64_MAX;
-        expect_answers(&s);
-    }
-}
-
 int main(int count, char **arguments) {
-    if (count != 3) {
-        fprintf(stderr, "usage: desk_test SAMPLE LISTING\n");
+    if (count != 4) {
+        fprintf(stderr, "usage: desk_test SAMPLE LISTING PAGE\n");
         return 2;
     }
     RUN(test_sizes)();
@@ -390,10 +340,9 @@ int main(int count, char **arguments) {
     RUN(test_judge_refused)();
     RUN(test_numbers_of_sweeps_refused)();
     RUN(test_spent)();
-    RUN(test_read)();
+    RUN(test_buffers)();
     RUN(test_rows_of_f)();
-    RUN(test_sample)(arguments[1], arguments[2]);
-    RUN(test_arbitrary_sessions)();
+    RUN(test_sample)(arguments[1], arguments[2], arguments[3]);
     printf("%lu\n", checked);
     return 0;
 }

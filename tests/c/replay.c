@@ -64,13 +64,15 @@ static int answers_sweep(desk_session *s) {
     return 0;
 }
 
-static int answers_read(const desk_session *s) {
+typedef desk_refusal writing(const desk_session *s, uint8_t *buffer, size_t length);
+
+static int answers_writing(const desk_session *s, writing *call, const char *answer) {
     uint8_t buffer[LONGEST_STRING];
     const size_t size = number();
     if (size > LONGEST_STRING) stop("a buffer is too long");
     memset(buffer, 0xA5, size);
-    const int refused = is_refused(desk_read(s, buffer, size));
-    if (!refused) printf("read\n");
+    const int refused = is_refused(call(s, buffer, size));
+    if (!refused) printf("%s\n", answer);
     print_bytes("buffer", buffer, size);
     return refused;
 }
@@ -110,7 +112,8 @@ static int answers(int letter, desk_session *s) {
     case 'o': return answers_open(s);
     case 'j': return answers_judge(s);
     case 's': return answers_sweep(s);
-    case 'r': return answers_read(s);
+    case 'r': return answers_writing(s, desk_read, "read");
+    case 'p': return answers_writing(s, desk_page, "page");
     case 'f': return answers_figures(s);
     case 'w': return answers_row();
     case 'c': desk_close(s); printf("closed\n"); return 0;

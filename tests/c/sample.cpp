@@ -4,6 +4,7 @@
 
 #include <cstdio>
 #include <cstdlib>
+#include <cstring>
 #include <fstream>
 #include <iterator>
 #include <vector>
@@ -61,6 +62,24 @@ void expect_passes(const desk_system &shown, const Bytes &record) {
     }
 }
 
+// A line for each part of the record, each number ending in the last of its columns; the bytes behind are untouched.
+void expect_page(const desk_session *session, const desk_system &shown, const Bytes &record) {
+    const std::size_t width = 28, parts = 2 * shown.last + 1;
+    Bytes page(DESK_LONGEST_PAGE, 0xA5);
+    expect(desk_page(session, page.data(), width * parts - 1).number == 13, "a page needs room for all of it");
+    expect(desk_page(session, page.data(), page.size()).number == 0, "the page of a settled mean is written");
+    for (std::size_t k = 0; k < parts; k++) {
+        char line[80];
+        const bool is_phi = k <= shown.last;
+        const std::size_t index = is_phi ? k : k - shown.last - 1;
+        const long part = field(record, 5 + 4 * k);
+        const unsigned long long own = shown.own[k];
+        std::snprintf(line, sizeof line, "%s %2zu %9ld %10llu\n", is_phi ? "phi" : "psi", index, part, own);
+        expect(std::strlen(line) == width && std::memcmp(line, &page[width * k], width) == 0, "a line has its part");
+    }
+    for (std::size_t k = width * parts; k < page.size(); k++) expect(page[k] == 0xA5, "the bytes behind a page are untouched");
+}
+
 void print_parts(const char *name, const Bytes &record, std::size_t first, std::size_t count) {
     for (std::size_t k = 0; k < count; k++) {
         std::printf("%s %zu %ld\n", name, k, static_cast<long>(field(record, 5 + 4 * (first + k))));
@@ -83,11 +102,13 @@ int main(int count, char **arguments) {
     expect(shown.refusal.number == 0 && shown.last == last, "the figures of the open file are shown");
     expect(shown.closeness == static_cast<std::uint64_t>(field(file, 6)), "so is its closeness");
     expect_passes(shown, record);
+    expect_page(&session, shown, record);
     std::printf("J %zu\nsweeps %llu\n", last, static_cast<unsigned long long>(swept.total));
     print_parts("phi", record, 0, last + 1);
     print_parts("psi", record, last + 1, last);
     desk_close(&session);
     expect(desk_sweep(&session, 1).refusal.number == 21, "nothing is open after a close");
     expect(desk_figures(&session).refusal.number == 21, "nothing is shown after a close");
+    expect(desk_page(&session, nullptr, 0).number == 21, "nothing is written after a close");
     return 0;
 }

@@ -1,5 +1,5 @@
-/* What the tests of the C interface share: assertions that end the program at the first that fails, and files with J = 1,
- * also opened. */
+/* What the tests of the C interface share: assertions that end the program at the first that fails, and files with J = 1, also
+ * opened. Its functions are inline, as each program uses a part of them. */
 #include "desk.h"
 
 #include <inttypes.h>
@@ -10,12 +10,12 @@
 #define T INT64_C(1048576)
 #define MOST_PART (INT64_C(1) << 26) /* a part of a mean is from minus this to this */
 #define COUNT(array) (sizeof(array) / sizeof *(array))
-enum { F_LENGTH = 118, F_RECORD = 17, LONGEST_FILE = 2806 };
+enum { F_LENGTH = 118, F_RECORD = 17, F_PAGE = 84, LONGEST_FILE = 2806 };
 
 static unsigned long checked; /* so many facts */
 static const char *running;   /* the test's name */
 
-static void expect(int line, const char *what, int holds) {
+static inline void expect(int line, const char *what, int holds) {
     checked++;
     if (!holds) {
         fprintf(stderr, "%s, line %d: not so: %s\n", running, line, what);
@@ -23,7 +23,7 @@ static void expect(int line, const char *what, int holds) {
     }
 }
 
-static void expect_refusal(int line, const char *call, desk_refusal got, uint64_t number, uint64_t place) {
+static inline void expect_refusal(int line, const char *call, desk_refusal got, uint64_t number, uint64_t place) {
     checked++;
     if (got.number != number || got.place != place) {
         fprintf(stderr, "%s, line %d: %s is refused with %" PRIu64 " at %" PRIu64 ", not with %" PRIu64 " at %" PRIu64 "\n",
@@ -45,11 +45,11 @@ static void expect_refusal(int line, const char *call, desk_refusal got, uint64_
     } while (0)
 
 /* A big-endian field; a negative value in two's complement. */
-static void put(uint8_t *bytes, size_t place, size_t width, uint64_t value) {
+static inline void put(uint8_t *bytes, size_t place, size_t width, uint64_t value) {
     for (size_t k = width; k-- > 0; value >>= 8) bytes[place + k] = (uint8_t)value;
 }
 
-static size_t record_of(uint8_t *record, const int64_t *parts, size_t count) {
+static inline size_t record_of(uint8_t *record, const int64_t *parts, size_t count) {
     put(record, 0, 4, 5 + 4 * count);
     record[4] = 1;
     for (size_t k = 0; k < count; k++) put(record, 5 + 4 * k, 4, (uint64_t)parts[k]);
@@ -57,8 +57,8 @@ static size_t record_of(uint8_t *record, const int64_t *parts, size_t count) {
 }
 
 /* A file with J = 1: variances of sigma 0, sigma 1, tau 0; priors of phi 0, phi 1, psi 0; amounts paid, then incurred. */
-static void file_of(uint8_t file[F_LENGTH], uint64_t closeness, const uint64_t variances[3], const int64_t prior_means[3],
-                    const uint64_t prior_variances[3], const uint64_t amounts[6]) {
+static inline void file_of(uint8_t file[F_LENGTH], uint64_t closeness, const uint64_t variances[3],
+                           const int64_t prior_means[3], const uint64_t prior_variances[3], const uint64_t amounts[6]) {
     put(file, 0, 4, F_LENGTH);
     put(file, 4, 1, 1);
     put(file, 5, 1, 1);
@@ -71,7 +71,7 @@ static void file_of(uint8_t file[F_LENGTH], uint64_t closeness, const uint64_t v
     for (size_t k = 0; k < 6; k++) put(file, 70 + 8 * k, 8, amounts[k]);
 }
 
-static void file_f(uint8_t file[F_LENGTH], uint64_t closeness) {
+static inline void file_f(uint8_t file[F_LENGTH], uint64_t closeness) {
     const uint64_t variances[3] = {1 << 30, 1 << 30, 1 << 30};
     const int64_t prior_means[3] = {10 * T, T, -T};
     const uint64_t prior_variances[3] = {UINT64_C(1) << 46, UINT64_C(1) << 46, UINT64_C(1) << 46};
@@ -79,24 +79,38 @@ static void file_f(uint8_t file[F_LENGTH], uint64_t closeness) {
     file_of(file, closeness, variances, prior_means, prior_variances, amounts);
 }
 
-static desk_session opened(const uint8_t *file, size_t length) {
+static inline desk_session opened(const uint8_t *file, size_t length) {
     desk_session s = DESK_EMPTY;
     EXPECT_DONE(desk_open(&s, file, length));
     return s;
 }
 
-static desk_session opened_f(uint64_t closeness) {
+static inline desk_session opened_f(uint64_t closeness) {
     uint8_t file[F_LENGTH];
     file_f(file, closeness);
     return opened(file, sizeof file);
 }
 
 /* The reference's spent_at_a_limit: phi 1 belongs near 66 doublings and is kept at 64, so its mean never passes. */
-static void file_that_never_settles(uint8_t file[F_LENGTH]) {
+static inline void file_that_never_settles(uint8_t file[F_LENGTH]) {
     const uint64_t high = UINT64_C(1) << 40;
     const uint64_t variances[3] = {1 << 30, high, 1 << 18};
     const int64_t prior_means[3] = {0, 0, MOST_PART};
     const uint64_t prior_variances[3] = {UINT64_C(1) << 46, UINT64_C(1) << 46, 1 << 18};
     const uint64_t amounts[6] = {1, high, 1, 1, high, high};
     file_of(file, 1, variances, prior_means, prior_variances, amounts);
+}
+
+static inline desk_judgement judged(const desk_session *s, int64_t phi_0, int64_t phi_1, int64_t psi_0) {
+    const int64_t parts[3] = {phi_0, phi_1, psi_0};
+    uint8_t record[F_RECORD];
+    const desk_session before = *s;
+    const desk_judgement answer = desk_judge(s, record, record_of(record, parts, 3));
+    EXPECT(memcmp(&before, s, sizeof before) == 0);
+    return answer;
+}
+
+static inline void expect_passed(desk_judgement answer) {
+    EXPECT_DONE(answer.refusal);
+    EXPECT(answer.passed == 1);
 }

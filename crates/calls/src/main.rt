@@ -3,10 +3,10 @@ use crate::printing::print_close;
 use crate::printing::print_hex;
 use crate::printing::print_judge;
 use crate::printing::print_open;
-use crate::printing::print_read;
 use crate::printing::print_refusal;
 use crate::printing::print_script;
 use crate::printing::print_sweep;
+use crate::printing::print_write;
 use crate::reading::read_length;
 use crate::reading::read_number;
 use crate::reading::read_string;
@@ -21,6 +21,7 @@ use session::calls::close;
 use session::calls::figures;
 use session::calls::judge;
 use session::calls::open;
+use session::calls::page;
 use session::calls::read;
 use session::calls::sweep;
 use session::state::empty;
@@ -88,13 +89,17 @@ fn run_sweep(s: Session) -> Step {
 }
 
 // The answer, then the buffer as it is left.
-fn print_reading(s: Session, lent: &mut [u8]) -> bool {
+fn print_writing(s: Session, letter: u8, lent: &mut [u8]) -> bool {
+    if letter == b'p' {
+        let paged = page(s, lent);
+        return print_write(b"page\n", paged) && print_hex(b"buffer ", lent);
+    }
     let answer = read(s, lent);
-    print_read(answer) && print_hex(b"buffer ", lent)
+    print_write(b"read\n", answer) && print_hex(b"buffer ", lent)
 }
 
-// Each lent byte is 0xA5, so that what is printed shows which of them were written.
-fn run_read(s: Session) -> Step {
+// A record or a page. Each lent byte is 0xA5, so that what is printed shows which of them were written.
+fn run_writing(s: Session, letter: u8) -> Step {
     let mut lent = [0xA5u8; 4096];
     let size = read_length(&lent);
     if !size.right {
@@ -103,7 +108,7 @@ fn run_read(s: Session) -> Step {
     let n = size.bytes;
     Step {
         session: s,
-        goes_on: print_reading(s, &mut lent[..n]),
+        goes_on: print_writing(s, letter, &mut lent[..n]),
     }
 }
 
@@ -156,7 +161,7 @@ fn run(s: Session, letter: u8) -> Step {
         b'o' => run_open(s),
         b'j' => run_judge(s),
         b's' => run_sweep(s),
-        b'r' => run_read(s),
+        b'r' | b'p' => run_writing(s, letter),
         b'f' => run_figures(s),
         b'w' => run_row(s),
         b'c' => run_close(s),

@@ -8,8 +8,8 @@ ghost use Rattle.calls.specs.Hex.{hexOf};
 use libc::STDOUT_FILENO;
 use session::answers::JudgeAnswer;
 use session::answers::OpenAnswer;
-use session::answers::ReadAnswer;
 use session::answers::SweepAnswer;
+use session::answers::WriteAnswer;
 
 pub fn print(text: &[u8]) -> bool {
     io::write_all(STDOUT_FILENO, text)
@@ -49,10 +49,11 @@ pub fn print_sweep(answer: SweepAnswer) -> bool {
     }
 }
 
-pub fn print_read(answer: ReadAnswer) -> bool {
+// What is said of a call that wrote is the caller's.
+pub fn print_write(said: &[u8], answer: WriteAnswer) -> bool {
     match answer {
-        ReadAnswer::Written => print(b"read\n"),
-        ReadAnswer::Refused(number, place) => print_refusal(number, place),
+        WriteAnswer::Written => print(said),
+        WriteAnswer::Refused(number, place) => print_refusal(number, place),
     }
 }
 

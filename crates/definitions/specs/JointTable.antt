@@ -1,10 +1,12 @@
--- The specification's examples that document 01 marks with a star ("Figures to agree on"), together, computed from the definitions.
+-- The specification's examples that document 01 marks with a star ("Figures to agree on"), and the page and the listing of F, together,
+-- computed from the definitions.
 use Prim.Native.Nat.{ℕ, _+_, _^_}
 use mathlib.Core.Path.{_≡_, refl}
 use mathlib.Core.Bool.{true}
 use mathlib.Core.List.{List, [], _∷_, _++_}
 use lib.IntN.{ℤ, pos, negsuc}
 use lib.Count.{leadingZeros}
+use lib.ListN.{replicate}
 use Rattle.integers.specs.Summation.{sum, total}
 use Rattle.definitions.specs.Words.{tabFrom, part}
 use Rattle.definitions.specs.Logarithm.{logarithm, bitsOf, highestBit, startFrom, nextBit, nextY}
@@ -13,7 +15,10 @@ use Rattle.definitions.specs.Layout.{Bytes, bigEndian, unsigned, twosCom
 use Rattle.definitions.specs.Refusals.{fields, check1, check2, check3, check4, check5, check6, check7, check8, check9, check10, fileCheck}
 use Rattle.definitions.specs.Observations.{Chain, chainOf, ratioVariance, paidStep, incurredStep, lastRatio}
 use Rattle.definitions.specs.Matrix.{Figures, figuresOf, partOf, own, matrix, rightHand, residue, passed, fails, judgement, judgeFrom}
-use Rattle.definitions.specs.Machine.{accepted, check16}
+use Rattle.definitions.specs.Text.{ascii, decimalFrom, signedDecimal, aligned, nameOf, indexOf, lines}
+use Rattle.definitions.specs.Page.{pageLine, pageOf}
+use Rattle.definitions.specs.Machine.{accepted, check16, refused, written, State, empty, holds, Outcome, openCall, sweepCall, writeCall, pageCall}
+use Rattle.definitions.specs.Programs.{partLine, sweepText, openText, programText, listed, listing, boardPage}
 
 -- ---- File F, byte by byte, with closeness e: J = 1, σ² and τ² all 2^30, prior variances 2^46, prior means 10T, T, −T
 
@@ -51,6 +56,10 @@ mean a b = pos (10485760 + a) ∷ pos (1048576 + b) ∷ negsuc 1048575 ∷ []
 abbrev residues : List ℤ → List ℤ
 residues μ = tabFrom 0 3 (residue F (part μ))
 
+-- the call `page`, lent so many bytes
+abbrev pageOfF : State Figures → ℕ → Outcome Figures
+pageOfF st size = pageCall Figures figuresOf (λ G. G) st (replicate size 165)
+
 pub record JointTable : Type 0 where
   pub log-of-1 : logarithm 1 ≡ 0
   pub log-of-2^40 : logarithm (2 ^ 40) ≡ 41943040
@@ -80,11 +89,27 @@ pub record JointTable : Type 0 where
   -- (10T, T + 1, −T), with e = 1 and with e = 2
   pub part-1-fails : judgement F (part (mean 0 1)) ≡ fails 1
   pub part-1-passes-with-e-2 : judgement (figuresOf (fileF 2)) (part (mean 0 1)) ≡ passed
+  -- document 02, the page of F
+  pub F-page :
+      pageOf 1 (mean 0 0) (F .own)
+      ≡ ascii "phi  0  10485760     131073\n"
+      ++ ascii "phi  1   1048576      65537\n"
+      ++ ascii "psi  0  -1048576      65537\n"
+  -- the call of F's page: 21, 24, 13; behind it stands what stood there
+  pub F-page-closed : pageOfF empty 84 .answer ≡ refused 21 0
+  pub F-page-failing : pageOfF (holds F (mean 2 0) 0) 83 .answer ≡ refused 24 0
+  pub F-page-short : pageOfF (holds F (mean 0 0) 0) 83 .answer ≡ refused 13 0
+  pub F-page-written : pageOfF (holds F (mean 0 0) 0) 84 .answer ≡ written
+  pub F-page-behind : pageOfF (holds F (mean 0 0) 0) 86 .buffer ≡ pageOf 1 (mean 0 0) (F .own) ++ 165 ∷ 165 ∷ []
+  pub F-board-page : boardPage (fileF 1) ≡ pageOf 1 (mean 0 0) (F .own)
+  pub F-listing : listing (fileF 1) ≡ ascii "J 1\nsweeps 0\nphi 0 10485760\nphi 1 1048576\npsi 0 -1048576\n"
 
 pub jointTable : JointTable
 unfolding leadingZeros sum total tabFrom logarithm bitsOf highestBit startFrom nextBit nextY weight bigEndian unsigned
     twosComplement rowStart fields check1 check2 check3 check4 check5 check6 check7 check8 check9 check10 fileCheck check16
     ratioVariance paidStep incurredStep lastRatio figuresOf partOf own matrix rightHand residue judgeFrom
+    ascii decimalFrom signedDecimal aligned nameOf indexOf lines pageLine partLine openCall sweepCall writeCall
+    sweepText openText programText listed
 jointTable = record {
   log-of-1 = refl;
   log-of-2^40 = refl;
@@ -105,4 +130,12 @@ jointTable = record {
   two-ticks-fail = refl;
   part-1-fails = refl;
   part-1-passes-with-e-2 = refl;
+  F-page = refl;
+  F-page-closed = refl;
+  F-page-failing = refl;
+  F-page-short = refl;
+  F-page-written = refl;
+  F-page-behind = refl;
+  F-board-page = refl;
+  F-listing = refl;
 }

@@ -8,7 +8,10 @@
 --   Loss           the loss of u/m times m²
 --   Matrix         own weight, precision matrix, right-hand side, residue; passed or the first failing part
 --   Sweep          one step, one sweep, the sweeps of a call
+--   Text           numbers in base ten, aligned; the names of the parts
+--   Page           the page of a mean and its own weights
 --   Machine        the session machine: each call's answer, and state and buffer afterwards
+--   Programs       what the programs print: the listing, and the page of a settled mean
 --   Guarantee      demand 3: what a passed mean is worth, and which means must pass
 --   JointTable     the starred figures, as one theorem
 -- The words that the definitions are written in: ℕ and its operations, in which a difference stops at 0 and n / 0 is 0; lists
@@ -23,6 +26,9 @@ pub mod Observations
 pub mod Loss
 pub mod Matrix
 pub mod Sweep
+pub mod Text
+pub mod Page
 pub mod Machine
+pub mod Programs
 pub mod Guarantee
 pub mod JointTable

@@ -12,6 +12,7 @@ use Rattle.definitions.specs.Refusals.{Check, clear, refuses, _then_, fi
 use Rattle.definitions.specs.Observations.{chainOf}
 use Rattle.definitions.specs.Matrix.{Figures, figuresOf, matrix, Judgement, judgement, passes}
 use Rattle.definitions.specs.Sweep.{Swept, sweeps, sweepLimit}
+use Rattle.definitions.specs.Page.{pageOf, pageLength}
 
 -- ---- open's checks: 1 to 10, then 16, a diagonal entry of A that is zero
 
@@ -36,6 +37,7 @@ pub data Call : Type 0 where
   judge : (meanRecord : Bytes) → Call
   sweep : (n : ℕ) → Call
   read : (buffer : Bytes) → Call
+  page : (buffer : Bytes) → Call
   row : (file : Bytes) (channel year : ℕ) → Call
   row-told : (file : Bytes) (channel year : ℕ) → Call
   close : Call
@@ -61,7 +63,7 @@ pub data State (X : Type 0) : Type 0 where
   empty : State X
   holds : X → List ℤ → ℕ → State X
 
--- the buffer is the one that `read` was lent, and no byte for any other call
+-- the buffer is the one that `read` or `page` was lent, and no byte for any other call
 pub record Outcome (X : Type 0) : Type 0 where
   pub answer : Answer
   pub state : State X
@@ -76,6 +78,14 @@ partUnless (refuses number place) b = []
 
 unfoldable pub rowPart : Bytes → ℕ → ℕ → Bytes
 rowPart f channel year = partUnless (rowCheck f channel year) (rowBytes f channel year)
+
+-- ---- what is written of a mean
+
+abbrev pub recordIn : Figures → List ℤ → Bytes
+recordIn F μ = recordOf (F .last) μ
+
+abbrev pub pageIn : Figures → List ℤ → Bytes
+pageIn F μ = pageOf (F .last) μ (F .own)
 
 -- ---- the calls, over what is kept of a file
 
@@ -115,22 +125,29 @@ module _ (X : Type 0) (keep : Bytes → X) (figures : X → Figures) where
       (cond (passes (figures x) (part μ)) (answers (holds x μ total) (settled total))
       (cond (leb sweepLimit total) (answers (holds x μ total) (refused 23 0)) swept))
 
-  abbrev pub reads : State X → Answer → Bytes → Outcome X
-  reads st a b = record { answer = a; state = st; buffer = b }
+  abbrev pub writes : State X → Answer → Bytes → Outcome X
+  writes st a b = record { answer = a; state = st; buffer = b }
 
-  -- 21, 24, 13; the bytes behind the record stay
-  unfoldable pub readCall : State X → Bytes → Outcome X
-  readCall empty b = reads empty (refused 21 0) b
-  readCall (holds x μ total) b =
-      cond (not (passes (figures x) (part μ))) (reads (holds x μ total) (refused 24 0) b)
-      (cond (ltb (length b) (recordLength (figures x .last))) (reads (holds x μ total) (refused 13 0) b)
-      (reads (holds x μ total) written (recordOf (figures x .last) μ ++ drop (recordLength (figures x .last)) b)))
+  -- 21, 24, 13: of a mean that passes a text is written, so many bytes for a J; those behind it stay
+  unfoldable pub writeCall : (ℕ → ℕ) → (Figures → List ℤ → Bytes) → State X → Bytes → Outcome X
+  writeCall size text empty b = writes empty (refused 21 0) b
+  writeCall size text (holds x μ total) b =
+      cond (not (passes (figures x) (part μ))) (writes (holds x μ total) (refused 24 0) b)
+      (cond (ltb (length b) (size (figures x .last))) (writes (holds x μ total) (refused 13 0) b)
+      (writes (holds x μ total) written (text (figures x) μ ++ drop (size (figures x .last)) b)))
+
+  abbrev pub readCall : State X → Bytes → Outcome X
+  readCall = writeCall recordLength recordIn
+
+  abbrev pub pageCall : State X → Bytes → Outcome X
+  pageCall = writeCall pageLength pageIn
 
   unfoldable pub outcome : State X → Call → Outcome X
   outcome st (open-file f) = openCall st f
   outcome st (judge r) = answers st (judgeCall st r)
   outcome st (sweep n) = sweepCall st n
   outcome st (read b) = readCall st b
+  outcome st (page b) = pageCall st b
   outcome st (row f channel year) = answers st (part-shown (rowPart f channel year))
   outcome st (row-told f channel year) = answers st (refusedOr (rowCheck f channel year) row-is-shown)
   outcome st close = record { answer = closed; state = empty; buffer = [] }

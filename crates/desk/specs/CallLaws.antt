@@ -21,22 +21,22 @@ use Rattle.session.specs.declared.answers.JudgeAnswer.{JudgeAnswer}
 use Rattle.session.specs.declared.answers.JudgeAnswer.the-variants as J
 use Rattle.session.specs.declared.answers.SweepAnswer.{SweepAnswer}
 use Rattle.session.specs.declared.answers.SweepAnswer.the-variants as S
-use Rattle.session.specs.declared.answers.ReadAnswer.{ReadAnswer}
-use Rattle.session.specs.declared.answers.ReadAnswer.the-variants as R
+use Rattle.session.specs.declared.answers.WriteAnswer.{WriteAnswer}
+use Rattle.session.specs.declared.answers.WriteAnswer.the-variants as W
 use Rattle.session.specs.declared.answers.FiguresAnswer.{FiguresAnswer}
 use Rattle.session.specs.declared.answers.FiguresAnswer.the-variants as F
 use Rattle.session.specs.declared.answers.Showing.{Showing}
 use Rattle.session.specs.State.{stateOf}
 use Rattle.session.specs.StateLaws.{stateOf-empty}
 use Rattle.session.specs.Calls as C
-use Rattle.session.specs.Calls.{ofOpen, ofJudge, ofSweep, ofRead, showsTo, FiguresOf}
+use Rattle.session.specs.Calls.{ofOpen, ofJudge, ofSweep, ofWrite, showsTo, FiguresOf}
 use Rattle.desk.specs.declared.answers.Refusal.{Refusal}
 use Rattle.desk.specs.declared.answers.Judged.{Judged}
 use Rattle.desk.specs.declared.answers.Swept.{Swept}
 use Rattle.desk.specs.declared.answers.RowShown.{RowShown}
 use Rattle.desk.specs.declared.answers.System.{System}
 use Rattle.desk.specs.Told.{none, told, refusalTold, judgeTold, sweepTold, rowTold, figuresTold, systemTold}
-use Rattle.desk.specs.Calls.{Numbered, Opens, Judges, Sweeps, Reads, Shows, Closes, ShowsRow}
+use Rattle.desk.specs.Calls.{Numbered, Opens, Judges, Sweeps, Writes, Shows, Closes, ShowsRow}
 
 never-0 : {a : Answer} → N.NumberedAnswer a → Numbered a
 never-0 some place e = let none : 1 ≤ 0 = subst N.NumberedAnswer e some in omega arith
@@ -107,23 +107,24 @@ sweeps-told s n a t h {r} e = record {
     by-answer (S.Going total) same some = absurd (some refl)
     by-answer (S.Refused number place) same some = same number place refl
 
--- ---- read
+-- ---- read and page
 
-pub reads-told : (s : Session) (before : Bytes) (a : ReadAnswer) (after : Bytes) → C.Reads s before a after
-    → {r : Refusal} → r ≡ refusalTold (ofRead a) → Reads s before r after
-reads-told s before a after h {r} e = record {
+pub writes-told : (size : ℕ → ℕ) (text : C.Text) (s : Session) (before : Bytes) (a : WriteAnswer) (after : Bytes)
+    → C.Writes size text s before a after → {r : Refusal} → r ≡ refusalTold (ofWrite a) → Writes size text s before r after
+writes-told size text s before a after h {r} e = record {
   told = e ∙ ap refusalTold (h .answer);
   numbered = numbered;
   buffer = h .buffer;
   worth = λ f μ total open-file none. h .worth f μ total open-file (is-written a (h .answer) (sym (ap (λ x. x .number) e) ∙ none));
 }
   where
-    numbered : Numbered (C.readsTo (stateOf s) before .answer)
-    numbered = never-0 (N.read-numbered D.Figures D.figuresOf itself (stateOf s) before)
+    numbered : Numbered (C.writesTo size text (stateOf s) before .answer)
+    numbered = never-0 (N.write-numbered D.Figures D.figuresOf itself size text (stateOf s) before)
 
-    is-written : (a : ReadAnswer) → ofRead a ≡ C.readsTo (stateOf s) before .answer → refusalTold (ofRead a) .number ≡ 0 → a ≡ R.Written
-    is-written R.Written same none = refl
-    is-written (R.Refused number place) same none =
+    is-written : (a : WriteAnswer) → ofWrite a ≡ C.writesTo size text (stateOf s) before .answer → refusalTold (ofWrite a) .number ≡ 0
+        → a ≡ W.Written
+    is-written W.Written same none = refl
+    is-written (W.Refused number place) same none =
         absurd (numbered place (sym same ∙ ap (λ n. refused n place) none))
 
 -- ---- figures

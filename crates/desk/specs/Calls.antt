@@ -8,16 +8,17 @@ use mathlib.Core.List.{List}
 use lib.IntN.{ℤ}
 use lib.ListN.{length, take, drop}
 use Rattle.definitions.specs.Words.{within, part}
-use Rattle.definitions.specs.Layout.{Bytes, lastYear, meanOf}
+use Rattle.definitions.specs.Layout.{Bytes, lastYear, recordLength, meanOf}
 use Rattle.definitions.specs.Refusals.{clear, refuses, rowCheck, recordCheck}
 use Rattle.definitions.specs.Sweep.{sweepLimit}
-use Rattle.definitions.specs.Machine.{Answer, refused, empty, rowPart}
+use Rattle.definitions.specs.Page.{pageLength}
+use Rattle.definitions.specs.Machine.{Answer, refused, empty, rowPart, recordIn, pageIn}
 use Rattle.definitions.specs.Guarantee.{Guarantee, Rounded}
 use Rattle.chain.specs.Arrays.{figuresAt}
 use Rattle.session.specs.declared.Session.{Session}
 use Rattle.session.specs.declared.answers.FiguresAnswer.the-variants.{Refused}
 use Rattle.session.specs.State.{stateOf, sessionHeld}
-use Rattle.session.specs.Calls.{opensTo, judgesTo, sweepsTo, readsTo, showsTo, HoldsFile, FiguresOf}
+use Rattle.session.specs.Calls.{Text, opensTo, judgesTo, sweepsTo, writesTo, showsTo, HoldsFile, FiguresOf}
 use Rattle.desk.specs.declared.answers.Refusal.{Refusal}
 use Rattle.desk.specs.declared.answers.Judged.{Judged}
 use Rattle.desk.specs.declared.answers.Swept.{Swept}
@@ -53,11 +54,17 @@ pub record Sweeps (s : Session) (n : ℕ) (r : Swept) (t : Session) : Type 0 whe
   pub rounded : (f : Bytes) (μ ν : List ℤ) (total after : ℕ) → HoldsFile s f μ total → HoldsFile t f ν after
       → within 1 sweepLimit n ≡ true → Rounded f (part ν) → r .settled ≡ 1
 
-pub record Reads (s : Session) (before : Bytes) (r : Refusal) (after : Bytes) : Type 0 where
-  pub told : r ≡ refusalTold (readsTo (stateOf s) before .answer)
-  pub numbered : Numbered (readsTo (stateOf s) before .answer)
-  pub buffer : after ≡ readsTo (stateOf s) before .buffer
+pub record Writes (size : ℕ → ℕ) (text : Text) (s : Session) (before : Bytes) (r : Refusal) (after : Bytes) : Type 0 where
+  pub told : r ≡ refusalTold (writesTo size text (stateOf s) before .answer)
+  pub numbered : Numbered (writesTo size text (stateOf s) before .answer)
+  pub buffer : after ≡ writesTo size text (stateOf s) before .buffer
   pub worth : (f : Bytes) (μ : List ℤ) (total : ℕ) → HoldsFile s f μ total → r .number ≡ 0 → Guarantee f (part μ)
+
+abbrev pub Reads : Session → Bytes → Refusal → Bytes → Type 0
+Reads = Writes recordLength recordIn
+
+abbrev pub Pages : Session → Bytes → Refusal → Bytes → Type 0
+Pages = Writes pageLength pageIn
 
 pub record Shows (s : Session) (r : System) : Type 0 where
   pub told : r ≡ systemTold (showsTo (stateOf s))

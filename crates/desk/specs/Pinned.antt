@@ -4,16 +4,18 @@ use Prim.Native.Nat.{ℕ, _+_, _*_, _≤_, _<_}
 use mathlib.Core.Path.{_≡_, refl, ap, _∙_}
 use mathlib.Core.Logic.{_≢_}
 use mathlib.Core.Bool.{true}
-use mathlib.Core.List.{List, [], _∷_}
+use mathlib.Core.List.{List, [], _∷_, _++_}
 use native.Mathlib.Omega.{arith}
+use borrow.Author.Tests.{lt-ltb, le-ltb}
 use lib.IntN.{ℤ, pos, negsuc}
 use lib.ListN.{length, getD, take, drop, replicate}
 use Rattle.definitions.specs.Words.{within, part}
-use Rattle.definitions.specs.Layout.{Bytes, lastYear, closeness, rowStart, meanOf}
+use Rattle.definitions.specs.Layout.{Bytes, lastYear, closeness, rowStart, meanOf, recordOf}
 use Rattle.definitions.specs.Refusals.{clear, refuses, rowCheck, recordCheck}
 use Rattle.definitions.specs.Observations.{chainOf}
-use Rattle.definitions.specs.Matrix.{passed, fails, Figures, entry, own, matrix, rightHand}
-use Rattle.definitions.specs.Machine.{refused, opened, judged, settled, going, written, empty, holds, rowPart}
+use Rattle.definitions.specs.Matrix.{passed, fails, passes, Figures, entry, own, matrix, rightHand}
+use Rattle.definitions.specs.Machine.{refused, opened, judged, settled, going, written, empty, holds, rowPart, writeCall}
+use Rattle.definitions.specs.Page.{pageOf}
 use Rattle.integers.specs.Summation.{total}
 use Rattle.laws.specs.Judged.{tab-at}
 use Rattle.laws.specs.Pinned.{Worth, worth, Near, rounded}
@@ -21,7 +23,7 @@ use Rattle.chain.specs.Arrays.{figuresAt}
 use Rattle.session.specs.declared.Session.{Session}
 use Rattle.session.specs.declared.answers.FiguresAnswer.the-variants.{Shown, Refused}
 use Rattle.session.specs.State.{stateOf, sessionHeld}
-use Rattle.session.specs.Calls.{opensTo, judgesTo, sweepsTo, readsTo, showsTo, HoldsFile}
+use Rattle.session.specs.Calls.{opensTo, judgesTo, sweepsTo, Text, writesTo, showsTo, HoldsFile}
 use Rattle.session.specs.ShowLaws.{entry-at}
 use Rattle.desk.specs.declared.answers.Refusal.{Refusal}
 use Rattle.desk.specs.declared.answers.Judged.{Judged}
@@ -29,7 +31,7 @@ use Rattle.desk.specs.declared.answers.Swept.{Swept}
 use Rattle.desk.specs.declared.answers.RowShown.{RowShown}
 use Rattle.desk.specs.declared.answers.System.{System}
 use Rattle.desk.specs.Told.{refusalTold, judgeTold, sweepTold, rowTold, systemTold}
-use Rattle.desk.specs.Calls.{Opens, Judges, Sweeps, Reads, Shows, Closes, ShowsRow}
+use Rattle.desk.specs.Calls.{Opens, Judges, Sweeps, Writes, Reads, Pages, Shows, Closes, ShowsRow}
 
 abbrev refusal : ℕ → ℕ → Refusal
 refusal number place = record { number = number; place = place }
@@ -110,15 +112,35 @@ module _ (s : Session) (lent : Bytes) where
     pub judge-done : judgesTo (stateOf s) lent ≢ refused 0 0
     judge-done = call .numbered 0
 
-  module _ (r : Refusal) (after : Bytes) (call : Reads s lent r after) where
-    pub read-told : readsTo (stateOf s) lent .answer ≡ refused 24 0 → r ≡ refusal 24 0
-    read-told e = call .told ∙ ap refusalTold e
+  module _ (size : ℕ → ℕ) (text : Text) (r : Refusal) (after : Bytes) (call : Writes size text s lent r after) where
+    pub write-told : writesTo size text (stateOf s) lent .answer ≡ refused 24 0 → r ≡ refusal 24 0
+    write-told e = call .told ∙ ap refusalTold e
 
-    pub read-buffer : after ≡ readsTo (stateOf s) lent .buffer
-    read-buffer = call .buffer
+    pub write-buffer : after ≡ writesTo size text (stateOf s) lent .buffer
+    write-buffer = call .buffer
 
-    pub read-done : readsTo (stateOf s) lent .answer ≢ refused 0 0
-    read-done = call .numbered 0
+    pub write-done : writesTo size text (stateOf s) lent .answer ≢ refused 0 0
+    write-done = call .numbered 0
+
+  -- of a mean that passes, and room for what is written
+  module _ (F : Figures) (μ : List ℤ) (count : ℕ) (some : stateOf s ≡ holds F μ count) (p : passes F (part μ) ≡ true) where
+    pub read-record : (r : Refusal) (after : Bytes) → Reads s lent r after → 5 + 4 * (2 * F .last + 1) ≤ length lent
+        → (r ≡ refusal 0 0) × (after ≡ recordOf (F .last) μ ++ drop (5 + 4 * (2 * F .last + 1)) lent)
+    unfolding writeCall
+    read-record r after call long =
+        let l = le-ltb _ _ long in (call .told ∙ rw (some, p, l) refl, call .buffer ∙ rw (some, p, l) refl)
+
+    pub page-written : (r : Refusal) (after : Bytes) → Pages s lent r after → 28 * (2 * F .last + 1) ≤ length lent
+        → (r ≡ refusal 0 0) × (after ≡ pageOf (F .last) μ (F .own) ++ drop (28 * (2 * F .last + 1)) lent)
+    unfolding writeCall
+    page-written r after call long =
+        let l = le-ltb _ _ long in (call .told ∙ rw (some, p, l) refl, call .buffer ∙ rw (some, p, l) refl)
+
+    pub page-short : (r : Refusal) (after : Bytes) → Pages s lent r after → length lent < 28 * (2 * F .last + 1)
+        → (r ≡ refusal 13 0) × (after ≡ lent)
+    unfolding writeCall
+    page-short r after call short =
+        let l = lt-ltb _ _ short in (call .told ∙ rw (some, p, l) refl, call .buffer ∙ rw (some, p, l) refl)
 
 module _ (s : Session) (r : System) (call : Shows s r) where
   pub none-shown : stateOf s ≡ empty
@@ -203,6 +225,7 @@ module _ (f : Bytes) (s : Session) (μ : List ℤ) (count : ℕ) (open-file : Ho
     pub sweep-rounded : (after : ℕ) → HoldsFile t f ν after → within 1 4096 n ≡ true → Near f (part ν) → r .settled ≡ 1
     sweep-rounded after then right h = call .rounded f μ ν count after open-file then right (rounded f h)
 
-  pub read-worth : (buffer after : Bytes) (r : Refusal) → Reads s buffer r after
+  -- of a record and of a page alike
+  pub write-worth : (size : ℕ → ℕ) (text : Text) (buffer after : Bytes) (r : Refusal) → Writes size text s buffer r after
       → {e : ℕ} → closeness f ≡ e → r .number ≡ 0 → Worth f e (part μ)
-  read-worth buffer after r call close writing = worth f close (call .worth f μ count open-file writing)
+  write-worth size text buffer after r call close writing = worth f close (call .worth f μ count open-file writing)

@@ -1,13 +1,13 @@
 // The answers as C sees them. A refusal's number is never 0, so 0 says that the call did its job.
 ghost use mathlib.Core.Path.{_≡_};
-ghost use Rattle.session.specs.Calls.{ofOpen, ofJudge, ofSweep, ofRead};
+ghost use Rattle.session.specs.Calls.{ofOpen, ofJudge, ofSweep, ofWrite};
 ghost use Rattle.desk.specs.Told.{refusalTold, judgeTold, sweepTold, figuresTold, systemTold};
 use session::answers::FiguresAnswer;
 use session::answers::JudgeAnswer;
 use session::answers::OpenAnswer;
-use session::answers::ReadAnswer;
 use session::answers::Showing;
 use session::answers::SweepAnswer;
+use session::answers::WriteAnswer;
 
 #[repr(C)]
 pub struct Refusal {
@@ -116,12 +116,12 @@ pub fn sweep_told(a: SweepAnswer) -> Swept
     }
 }
 
-pub fn read_told(a: ReadAnswer) -> Refusal
-    ensures { λ r. ⌜ r ≡ refusalTold (ofRead a) ⌝ }
+pub fn write_told(a: WriteAnswer) -> Refusal
+    ensures { λ r. ⌜ r ≡ refusalTold (ofWrite a) ⌝ }
 {
     match a {
-        ReadAnswer::Written => refusal_of(0, 0),
-        ReadAnswer::Refused(number, place) => refusal_of(number, place),
+        WriteAnswer::Written => refusal_of(0, 0),
+        WriteAnswer::Refused(number, place) => refusal_of(number, place),
     }
 }
 

@@ -1,6 +1,6 @@
 // What C calls. `held` has J (0 while nothing is open), the closeness and the sweeps run since open.
 ghost use Rattle.session.specs.State.{sessionHeld};
-ghost use Rattle.desk.specs.Calls.{Opens, Judges, Sweeps, Reads, Shows, Closes, ShowsRow};
+ghost use Rattle.desk.specs.Calls.{Opens, Judges, Sweeps, Reads, Pages, Shows, Closes, ShowsRow};
 use crate::answers::Judged;
 use crate::answers::Refusal;
 use crate::answers::RowShown;
@@ -8,15 +8,16 @@ use crate::answers::Swept;
 use crate::answers::System;
 use crate::answers::judge_told;
 use crate::answers::open_told;
-use crate::answers::read_told;
 use crate::answers::sweep_told;
 use crate::answers::system_told;
+use crate::answers::write_told;
 use layout::checks::Check;
 use readings::rows::row_place;
 use readings::rows::row_told;
 use session::lent::figures_lent;
 use session::lent::judge_lent;
 use session::lent::open_lent;
+use session::lent::page_lent;
 use session::lent::read_lent;
 use session::lent::sweep_lent;
 
@@ -111,7 +112,33 @@ pub extern "C" fn desk_read_lent<'a>(
         (sessionHeld (now (held .entry)) (now (own .entry)) (now (matrix .entry)) (now («right_hand» .entry)) (now (mean .entry)))
         (now (buffer .entry)) r (now (buffer .exit)) ⌝ }
 {
-    read_told(read_lent(
+    write_told(read_lent(
+        held[0] as usize,
+        held[1],
+        held[2],
+        own,
+        matrix,
+        right_hand,
+        mean,
+        buffer,
+    ))
+}
+
+// 21, 24, 13.
+#[no_mangle]
+pub extern "C" fn desk_page_lent<'a>(
+    held: &'a [u64; 3],
+    own: &'a [u64; 31],
+    matrix: &'a [i64; 961],
+    right_hand: &'a [i64; 31],
+    mean: &'a [i64; 31],
+    buffer: &'a mut [u8],
+) -> Refusal
+    ensures { λ r. ⌜ Pages
+        (sessionHeld (now (held .entry)) (now (own .entry)) (now (matrix .entry)) (now («right_hand» .entry)) (now (mean .entry)))
+        (now (buffer .entry)) r (now (buffer .exit)) ⌝ }
+{
+    write_told(page_lent(
         held[0] as usize,
         held[1],
         held[2],

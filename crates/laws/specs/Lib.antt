@@ -23,6 +23,11 @@
 --   SweepLaws         no step and no sweep raises the loss; a swept mean stays inside the limits
 --   MachineLaws       the machine runs on a file's figures; every state that calls reach is empty, or an accepted file with a mean
 --                     inside the limits and a total ≤ 4,096
+--   Decimal           numbers as text: how many bytes they have, and that they are read back whole
+--   Lines             texts of lines: where each line stands, and that lines which end alike are told apart
+--   Pages             every value fits its columns, and two different means never share a page
+--   PinnedPage        both once more, byte by byte and in plain numbers
+--   Printed           what the two programs print for every input: by the answer of their last call, and in at most 4,096 bytes
 --   Numbers           a refusal has a number of at least 1
 pub mod LogarithmBits
 pub mod LogarithmBound
@@ -47,4 +52,9 @@ pub mod FileLimits
 pub mod StepLaws
 pub mod SweepLaws
 pub mod MachineLaws
+pub mod Decimal
+pub mod Lines
+pub mod Pages
+pub mod PinnedPage
+pub mod Printed
 pub mod Numbers

@@ -11,12 +11,13 @@ use lib.IntN.{ℤ, pos, natAbs}
 use lib.ListN.{length, List·getD-eq-default}
 use Rattle.definitions.specs.Words.{within, tabFrom, part}
 use Rattle.definitions.specs.Layout.{Bytes, lastYear, parts, priorMean, recordLength}
+use Rattle.definitions.specs.Page.{pageLength}
 use Rattle.definitions.specs.Refusals.{Check, clear, refuses, partLimit}
 use Rattle.definitions.specs.Matrix.{Figures, figuresOf, passes}
 use Rattle.definitions.specs.Sweep.{sweeps, sweepLimit, oneSweep}
-use Rattle.definitions.specs.Machine.{Call, open-file, judge, sweep, read, row, row-told, close}
+use Rattle.definitions.specs.Machine.{Call, open-file, judge, sweep, read, page, row, row-told, close}
 use Rattle.definitions.specs.Machine.{State, empty, holds, Outcome, openCheck, isClear, accepted, openUnless}
-use Rattle.definitions.specs.Machine.{openCall, judgeCall, sweepCall, readCall, outcome, outcomes, machine, figuresMachine}
+use Rattle.definitions.specs.Machine.{openCall, judgeCall, sweepCall, writeCall, recordIn, pageIn, outcome, outcomes, machine, figuresMachine}
 use Rattle.laws.specs.Accepted.{accepted-file, AcceptedFile}
 use Rattle.laws.specs.Judged.{tab-at, tabFrom-length}
 use Rattle.laws.specs.SweepLaws.{MeanOf, sweeps-came}
@@ -48,8 +49,16 @@ held-open : (c : Check) (f : Bytes) → openUnless Figures figuresOf (λ F. F) c
 held-open clear f = refl
 held-open (refuses number place) f = refl
 
+-- a call that writes
+held-write : (size : ℕ → ℕ) (text : Figures → List ℤ → Bytes) (st : State Bytes) (b : Bytes)
+    → writeCall Figures figuresOf (λ F. F) size text (heldState st) b ≡ heldOutcome (writeCall Bytes (λ f. f) figuresOf size text st b)
+unfolding writeCall
+held-write size text empty b = refl
+held-write size text (holds f μ total) b =
+    sym (held-cond₂ (not (passes (figuresOf f) (part μ))) (ltb (length b) (size (figuresOf f .last))) _ _ _)
+
 pub machine-on-figures : (st : State Bytes) (call : Call) → figuresMachine (heldState st) call ≡ heldOutcome (machine st call)
-unfolding outcome openCall judgeCall sweepCall readCall
+unfolding outcome openCall judgeCall sweepCall
 machine-on-figures empty (open-file f) = held-open (openCheck f) f
 machine-on-figures (holds f μ total) (open-file g) = refl
 machine-on-figures empty (judge r) = refl
@@ -57,9 +66,8 @@ machine-on-figures (holds f μ total) (judge r) = refl
 machine-on-figures empty (sweep n) = refl
 machine-on-figures (holds f μ total) (sweep n) =
     sym (held-cond₃ (not (within 1 sweepLimit n)) (passes (figuresOf f) (part μ)) (leb sweepLimit total) _ _ _ _)
-machine-on-figures empty (read b) = refl
-machine-on-figures (holds f μ total) (read b) =
-    sym (held-cond₂ (not (passes (figuresOf f) (part μ))) (ltb (length b) (recordLength (figuresOf f .last))) _ _ _)
+machine-on-figures st (read b) = held-write recordLength recordIn st b
+machine-on-figures st (page b) = held-write pageLength pageIn st b
 machine-on-figures empty (row f channel year) = refl
 machine-on-figures (holds g μ total) (row f channel year) = refl
 machine-on-figures empty (row-told f channel year) = refl
@@ -107,8 +115,15 @@ good-cond : (t : Bool) (a b : Outcome Bytes) → Good (a .state) → Good (b .st
 good-cond true a b x y = x
 good-cond false a b x y = y
 
+good-write : (size : ℕ → ℕ) (text : Figures → List ℤ → Bytes) (st : State Bytes) (b : Bytes)
+    → Good st → Good (writeCall Bytes (λ f. f) figuresOf size text st b .state)
+unfolding writeCall
+good-write size text empty b g = g
+good-write size text (holds f μ total) b g =
+    good-cond (not (passes (figuresOf f) (part μ))) _ _ g (good-cond (ltb (length b) (size (figuresOf f .last))) _ _ g g)
+
 pub good-call : (st : State Bytes) (call : Call) → Good st → Good (machine st call .state)
-unfolding outcome openCall sweepCall readCall
+unfolding outcome openCall sweepCall
 good-call empty (open-file f) g = by-check (openCheck f) refl
   where
     by-check : (c : Check) → openCheck f ≡ c → Good (openUnless Bytes (λ s. s) figuresOf c f .state)
@@ -120,9 +135,8 @@ good-call empty (sweep n) g = g
 good-call (holds f μ total) (sweep n) g =
     good-cond (not (within 1 sweepLimit n)) _ _ g (good-cond (passes (figuresOf f) (part μ)) _ _ g (good-cond (leb sweepLimit total) _ _ g
     (g .0, sweeps-came f (accepted-file f (g .0)) n μ total (g .1) .mean, sweeps-total (figuresOf f) n μ total (g .2))))
-good-call empty (read b) g = g
-good-call (holds f μ total) (read b) g =
-    good-cond (not (passes (figuresOf f) (part μ))) _ _ g (good-cond (ltb (length b) (recordLength (figuresOf f .last))) _ _ g g)
+good-call st (read b) g = good-write recordLength recordIn st b g
+good-call st (page b) g = good-write pageLength pageIn st b g
 good-call st (row f channel year) g = g
 good-call st (row-told f channel year) g = g
 good-call st close g = tt

@@ -1,7 +1,9 @@
 -- A refusal has a number of at least 1, so that 0 is free to say that there is none.
 use Prim.Native.Nat.{ℕ, zero, suc, _≤_}
 use mathlib.Core.Bool.{Bool, true, false, not, cond, _&&_}
+use mathlib.Core.List.{List}
 use native.Mathlib.Omega.{arith}
+use lib.IntN.{ℤ}
 use lib.ListN.{length}
 use lib.Dec.{leb, ltb, eqb}
 use Rattle.definitions.specs.Words.{within, part}
@@ -13,7 +15,7 @@ use Rattle.definitions.specs.Matrix.{Figures, Judgement, passes}
 use Rattle.definitions.specs.Sweep.{sweeps, sweepLimit}
 use Rattle.definitions.specs.Machine.{Outcome, Answer, refused, opened, judged, settled, going, written, part-shown, row-is-shown, closed}
 use Rattle.definitions.specs.Machine.{State, empty, holds, check16, openCheck, openUnless, refusedOr}
-use Rattle.definitions.specs.Machine.{openCall, judgeCall, sweepCall, readCall}
+use Rattle.definitions.specs.Machine.{openCall, judgeCall, sweepCall, writeCall}
 
 -- ---- checks
 
@@ -123,9 +125,10 @@ module _ (X : Type 0) (keep : Bytes → X) (figures : X → Figures) where
       (either (passes (figures x) (part μ)) _ _ tt
       (either (leb sweepLimit total) _ _ (omega arith) (settled-or-going after _)))
 
-  pub read-numbered : (st : State X) (b : Bytes) → NumberedAnswer (readCall X keep figures st b .answer)
-  unfolding readCall
-  read-numbered empty b = omega arith
-  read-numbered (holds x μ total) b =
+  pub write-numbered : (size : ℕ → ℕ) (text : Figures → List ℤ → Bytes) (st : State X) (b : Bytes)
+      → NumberedAnswer (writeCall X keep figures size text st b .answer)
+  unfolding writeCall
+  write-numbered size text empty b = omega arith
+  write-numbered size text (holds x μ total) b =
       either (not (passes (figures x) (part μ))) _ _ (omega arith)
-      (either (ltb (length b) (recordLength (figures x .last))) _ _ (omega arith) tt)
+      (either (ltb (length b) (size (figures x .last))) _ _ (omega arith) tt)

@@ -18,9 +18,9 @@ use Rattle.definitions.specs.Loss.{Vector, loss, lossTimes}
 use Rattle.definitions.specs.Observations.{chainOf}
 use Rattle.definitions.specs.Refusals.{rowCheck}
 use Rattle.definitions.specs.Matrix.{own, residueTimes, Figures, figuresOf, passes}
-use Rattle.definitions.specs.Machine.{accepted, State, empty, open-file, judge, sweep, read, row, row-told, close}
+use Rattle.definitions.specs.Machine.{accepted, State, empty, open-file, judge, sweep, read, page, row, row-told, close}
 use Rattle.definitions.specs.Machine.{closed, part-shown, row-is-shown, refusedOr, rowPart}
-use Rattle.definitions.specs.Machine.{openCall, judgeCall, sweepCall, readCall, outcome, figuresMachine}
+use Rattle.definitions.specs.Machine.{openCall, judgeCall, sweepCall, readCall, pageCall, outcome, figuresMachine}
 use Rattle.definitions.specs.Guarantee.{Guarantee, Rounded}
 use Rattle.laws.specs.Demand3.{demand3}
 use Rattle.laws.specs.Judged.{passes-of-small}
@@ -107,6 +107,7 @@ module _ (st : State Figures) where
     pub judges-alone : (r : Bytes) → figuresMachine st (judge r) .state ≡ st
     pub sweeps : (n : ℕ) → figuresMachine st (sweep n) ≡ sweepCall Figures figuresOf (λ F. F) st n
     pub reads : (b : Bytes) → figuresMachine st (read b) ≡ readCall Figures figuresOf (λ F. F) st b
+    pub pages : (b : Bytes) → figuresMachine st (page b) ≡ pageCall Figures figuresOf (λ F. F) st b
     pub shows : (f : Bytes) (channel year : ℕ)
         → figuresMachine st (row f channel year) ≡ record { answer = part-shown (rowPart f channel year); state = st; buffer = [] }
     pub tells : (f : Bytes) (channel year : ℕ)
@@ -122,6 +123,7 @@ module _ (st : State Figures) where
     judges-alone = λ r. refl;
     sweeps = λ n. refl;
     reads = λ b. refl;
+    pages = λ b. refl;
     shows = λ f channel year. refl;
     tells = λ f channel year. refl;
     closes = refl;

@@ -1,5 +1,1 @@
-pub mod Page
-pub mod Text
-pub mod TextLaws
 pub mod Listing
-pub mod ListingLaws

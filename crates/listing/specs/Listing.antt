@@ -1,55 +1,54 @@
--- Specification, "The calls": what the listing program prints for the bytes on its standard input, by the answers of the session machine.
-use Prim.Native.Nat.{ℕ, _+_}
-use mathlib.Core.Bool.{cond}
+-- The lines of a record's parts.
+use Prim.Native.Nat.{ℕ, _+_, _*_, _≤_}
+use mathlib.Core.Path.{_≡_, refl, sym, ap, _∙_}
 use mathlib.Core.List.{List, [], _∷_, _++_}
-use lib.Dec.{leb}
-use lib.ListN.{length, replicate}
-use Rattle.definitions.specs.Layout.{Bytes, lastYear}
-use Rattle.definitions.specs.Matrix.{Figures}
-use Rattle.definitions.specs.Machine.{Answer, refused, opened, judged, settled, going, written, part-shown, row-is-shown, closed, State, empty, Outcome}
-use Rattle.session.specs.Calls.{opensTo, sweepsTo, readsTo}
-use Rattle.listing.specs.Text.{countLine, partLines, partFrom, refusalLine}
+use native.Mathlib.Omega.{arith}
+use lib.IntN.{ℤ}
+use lib.ListN.{length, take, drop, length-drop}
+use lib.Seq.{append-snoc, take-append-le, drop-append-le}
+use Rattle.definitions.specs.Words.{part}
+use Rattle.definitions.specs.Layout.{Bytes, bigEndian, unsigned, twosComplement, signed, lastYear, parts, partAt, recordOf}
+use Rattle.definitions.specs.Refusals.{yearLimit}
+use Rattle.definitions.specs.Matrix.{Part, partOf, Figures, figuresOf}
+use Rattle.definitions.specs.Text.{ascii, space, lineFeed, decimal, signedDecimal, nameOf, indexOf, lines}
+use Rattle.definitions.specs.Machine.{State, recordIn}
+use Rattle.definitions.specs.Programs.{countLine, partLine, listed, listing}
+use Rattle.laws.specs.Lines.{lines-same}
+use Rattle.laws.specs.Printed.{MeanSettled}
+use Rattle.records.specs.Records.{InLimits, record-length, part-read}
 
--- `J `, `sweeps `, `phi `, `psi `
-abbrev pub meanLines : ℕ → ℕ → Bytes → List ℕ
-meanLines years total r =
-    ((countLine (74 ∷ 32 ∷ []) years ++ countLine (115 ∷ 119 ∷ 101 ∷ 101 ∷ 112 ∷ 115 ∷ 32 ∷ []) total)
-    ++ partLines (112 ∷ 104 ∷ 105 ∷ 32 ∷ []) (partFrom r 0) (years + 1))
-    ++ partLines (112 ∷ 115 ∷ 105 ∷ 32 ∷ []) (partFrom r (years + 1)) years
+-- what the lines of parts are asked for
+pub record OfParts (page : List ℕ) (at last : ℕ) : Type 0 where
+  pub on : at ≤ length page
+  pub years : last ≤ yearLimit
 
--- `spent `
-abbrev pub spentLine : ℕ → List ℕ
-spentLine total = countLine (115 ∷ 112 ∷ 101 ∷ 110 ∷ 116 ∷ 32 ∷ []) total
+abbrev pub recordLines : ℕ → Bytes → Bytes
+recordLines last r = lines (λ k. partLine (partOf last k) (signed (partAt k) r)) (parts last)
 
--- what is printed by an answer: a refusal alone; else what goes with the answer
-abbrev pub printed : Answer → List ℕ → (ℕ → List ℕ) → List ℕ
-printed (refused number place) next settles = refusalLine number place
-printed opened next settles = next
-printed (judged verdict) next settles = next
-printed (settled total) next settles = settles total
-printed (going total) next settles = spentLine total
-printed written next settles = next
-printed (part-shown bytes) next settles = next
-printed row-is-shown next settles = next
-printed closed next settles = next
+-- a line as it is put, the spaces by themselves
+pub part-put : (p : Part) (mean : ℤ)
+    → nameOf p ++ space ∷ [] ++ decimal (indexOf p) ++ space ∷ [] ++ signedDecimal mean ++ lineFeed ∷ [] ≡ partLine p mean
+unfolding partLine
+part-put p mean =
+    let indexed = decimal (indexOf p) in
+    rw (append-snoc (nameOf p) space indexed, append-snoc (nameOf p ++ space ∷ indexed) space (signedDecimal mean)) refl
 
-abbrev pub none : ℕ → List ℕ
-none total = []
+-- what is read of a mean's record, with bytes behind it, are its parts
+pub record-lines : (J : ℕ) (μ : List ℤ) (rest : Bytes) → InLimits (parts J) μ
+    → recordLines J (recordOf J μ ++ rest) ≡ lines (λ k. partLine (partOf J k) (part μ k)) (parts J)
+unfolding unsigned
+record-lines J μ rest inside = lines-same _ _ (parts J) (λ k below.
+    let long = record-length J μ in
+    let at : 5 + 4 * k ≤ length (recordOf J μ) = omega (arith, long) in
+    let bytes : take 4 (drop (5 + 4 * k) (recordOf J μ ++ rest)) ≡ take 4 (drop (5 + 4 * k) (recordOf J μ)) =
+    ap (take 4) (drop-append-le (5 + 4 * k) (recordOf J μ) rest at)
+    ∙ take-append-le 4 (drop (5 + 4 * k) (recordOf J μ)) rest (omega (arith, length-drop (5 + 4 * k) (recordOf J μ), long)) in
+    ap (partLine (partOf J k)) (ap (λ l. twosComplement (bigEndian 0 l)) bytes ∙ part-read J μ inside k below))
 
--- the record that `read` writes is lent 129 bytes, as many as the longest has
-abbrev pub reading : State Figures → Outcome Figures
-reading st = readsTo st (replicate 129 0)
-
--- the mean is read back from the record
-unfoldable pub readText : ℕ → ℕ → State Figures → List ℕ
-readText years total st = printed (reading st .answer) (meanLines years total (reading st .buffer)) none
-
-unfoldable pub sweepText : ℕ → State Figures → List ℕ
-sweepText years st = printed (sweepsTo st 4096 .answer) [] (λ total. readText years total (sweepsTo st 4096 .state))
-
-unfoldable pub openText : Bytes → List ℕ
-openText given = printed (opensTo empty given .answer) (sweepText (lastYear given) (opensTo empty given .state)) none
-
--- an input beyond 2,806 bytes is refused
-unfoldable pub listing : Bytes → List ℕ
-listing given = cond (leb 2807 (length given)) (refusalLine 1 0) (openText given)
+-- what is put is the listing
+pub listing-put : {given : Bytes} {st : State Figures} {total : ℕ} (m : MeanSettled given st total)
+    → {last : ℕ} {r : Bytes} (rest : Bytes) → last ≡ lastYear given → r ≡ recordIn (figuresOf given) (m .mean) ++ rest
+    → (countLine (ascii "J ") last ++ countLine (ascii "sweeps ") total) ++ recordLines last r ≡ listing given
+unfolding listed figuresOf
+listing-put {given} m rest years is =
+    rw (years, is, record-lines (lastYear given) (m .mean) rest (m .inside)) refl ∙ sym (m .text listed)

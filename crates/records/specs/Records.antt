@@ -146,7 +146,7 @@ module _ (J : ℕ) (μ : List ℤ) (inside : InLimits (parts J) μ) where
 
 -- ---- what is written is not refused
 
-record-length : (J : ℕ) (μ : List ℤ) → length (recordOf J μ) ≡ recordLength J
+pub record-length : (J : ℕ) (μ : List ℤ) → length (recordOf J μ) ≡ recordLength J
 record-length J μ =
     length-append (bytesOf 4 (recordLength J)) (1 ∷ partBytes 0 (parts J) μ)
     ∙ ap₂ (λ m n. m + suc n) (bytes-length 4 (recordLength J)) (part-bytes-length μ 0 (parts J))

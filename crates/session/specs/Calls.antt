@@ -8,14 +8,15 @@ use mathlib.Core.List.{List}
 use lib.IntN.{ℤ, pos}
 use lib.ListN.{getD, replicate}
 use Rattle.definitions.specs.Words.{within, part, tabFrom}
-use Rattle.definitions.specs.Layout.{Bytes, lastYear, closeness, parts, meanOf}
+use Rattle.definitions.specs.Layout.{Bytes, lastYear, closeness, parts, meanOf, recordLength}
 use Rattle.definitions.specs.Refusals.{clear, recordCheck}
 use Rattle.definitions.specs.Sweep.{sweepLimit}
+use Rattle.definitions.specs.Page.{pageLength}
 use Rattle.definitions.specs.Matrix as D
 use Rattle.definitions.specs.Matrix.{passed, fails, entry}
 use Rattle.definitions.specs.Machine as M
 use Rattle.definitions.specs.Machine.{Answer, opened, judged, settled, going, written, State, empty, holds, Outcome, accepted}
-use Rattle.definitions.specs.Machine.{openCall, judgeCall, sweepCall, readCall}
+use Rattle.definitions.specs.Machine.{openCall, judgeCall, sweepCall, writeCall, recordIn, pageIn}
 use Rattle.definitions.specs.Observations.{chainOf}
 use Rattle.definitions.specs.Guarantee.{Guarantee, Rounded}
 use Rattle.chain.specs.declared.arrays.Figures.{Figures}
@@ -26,8 +27,8 @@ use Rattle.session.specs.declared.answers.JudgeAnswer.{JudgeAnswer}
 use Rattle.session.specs.declared.answers.JudgeAnswer.the-variants.{Passed, Fails, Refused as JudgeRefused}
 use Rattle.session.specs.declared.answers.SweepAnswer.{SweepAnswer}
 use Rattle.session.specs.declared.answers.SweepAnswer.the-variants.{Settled, Going, Refused as SweepRefused}
-use Rattle.session.specs.declared.answers.ReadAnswer.{ReadAnswer}
-use Rattle.session.specs.declared.answers.ReadAnswer.the-variants.{Written, Refused as ReadRefused}
+use Rattle.session.specs.declared.answers.WriteAnswer.{WriteAnswer}
+use Rattle.session.specs.declared.answers.WriteAnswer.the-variants.{Written, Refused as WriteRefused}
 use Rattle.session.specs.declared.answers.FiguresAnswer.the-variants.{Shown, Refused as FiguresRefused}
 use Rattle.session.specs.declared.answers.Opening.{Opening}
 use Rattle.session.specs.declared.answers.Showing.{Showing}
@@ -50,9 +51,9 @@ ofSweep (Settled total) = settled total
 ofSweep (Going total) = going total
 ofSweep (SweepRefused number place) = M.refused number place
 
-abbrev pub ofRead : ReadAnswer → Answer
-ofRead Written = written
-ofRead (ReadRefused number place) = M.refused number place
+abbrev pub ofWrite : WriteAnswer → Answer
+ofWrite Written = written
+ofWrite (WriteRefused number place) = M.refused number place
 
 -- ---- the machine on figures, call by call
 
@@ -65,8 +66,12 @@ judgesTo = judgeCall D.Figures D.figuresOf (λ F. F)
 abbrev pub sweepsTo : State D.Figures → ℕ → Outcome D.Figures
 sweepsTo = sweepCall D.Figures D.figuresOf (λ F. F)
 
-abbrev pub readsTo : State D.Figures → Bytes → Outcome D.Figures
-readsTo = readCall D.Figures D.figuresOf (λ F. F)
+-- what is written of a mean, and how many bytes for a J: `read` and `page` differ in these alone
+abbrev pub Text : Type 0
+Text = D.Figures → List ℤ → Bytes
+
+abbrev pub writesTo : (ℕ → ℕ) → Text → State D.Figures → Bytes → Outcome D.Figures
+writesTo = writeCall D.Figures D.figuresOf (λ F. F)
 
 -- ---- what is shown of a state's figures
 
@@ -125,11 +130,17 @@ pub record Sweeps (s : Session) (n : ℕ) (r : Sweeping) : Type 0 where
   pub rounded : (f : Bytes) (μ ν : List ℤ) (total after : ℕ) → HoldsFile s f μ total → HoldsFile (r .session) f ν after
       → within 1 sweepLimit n ≡ true → Rounded f (part ν) → r .answer ≡ Settled after
 
-pub record Reads (s : Session) (before : Bytes) (r : ReadAnswer) (after : Bytes) : Type 0 where
-  pub answer : ofRead r ≡ readsTo (stateOf s) before .answer
-  pub buffer : after ≡ readsTo (stateOf s) before .buffer
+pub record Writes (size : ℕ → ℕ) (text : Text) (s : Session) (before : Bytes) (r : WriteAnswer) (after : Bytes) : Type 0 where
+  pub answer : ofWrite r ≡ writesTo size text (stateOf s) before .answer
+  pub buffer : after ≡ writesTo size text (stateOf s) before .buffer
   -- the mean that is written
   pub worth : (f : Bytes) (μ : List ℤ) (total : ℕ) → HoldsFile s f μ total → r ≡ Written → Guarantee f (part μ)
+
+abbrev pub Reads : Session → Bytes → WriteAnswer → Bytes → Type 0
+Reads = Writes recordLength recordIn
+
+abbrev pub Pages : Session → Bytes → WriteAnswer → Bytes → Type 0
+Pages = Writes pageLength pageIn
 
 -- the figures of a file, part by part
 pub record FiguresOf (f : Bytes) (F : Figures) : Type 0 where

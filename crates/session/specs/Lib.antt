@@ -12,7 +12,7 @@ pub mod Worth
 pub mod OpenLaws
 pub mod JudgeLaws
 pub mod SweepLaws
-pub mod ReadLaws
+pub mod WriteLaws
 pub mod ShowLaws
 pub mod Pinned
 pub mod MeanOfRecord

@@ -21,12 +21,12 @@ use Rattle.session.specs.declared.answers.JudgeAnswer.the-variants.{Pass
 use Rattle.session.specs.declared.answers.SweepAnswer.{SweepAnswer}
 use Rattle.session.specs.declared.answers.OpenAnswer.the-variants.{Opened, Refused as OpenRefused}
 use Rattle.session.specs.declared.answers.SweepAnswer.the-variants.{Settled, Refused as SweepRefused}
-use Rattle.session.specs.declared.answers.ReadAnswer.{ReadAnswer}
-use Rattle.session.specs.declared.answers.ReadAnswer.the-variants.{Written}
+use Rattle.session.specs.declared.answers.WriteAnswer.{WriteAnswer}
+use Rattle.session.specs.declared.answers.WriteAnswer.the-variants.{Written}
 use Rattle.session.specs.declared.answers.FiguresAnswer.the-variants.{Shown, Refused as FiguresRefused}
 use Rattle.session.specs.declared.answers.Showing.{Showing}
 use Rattle.session.specs.State.{stateOf}
-use Rattle.session.specs.Calls.{opensTo, showsTo, HoldsFile, Opens, Judges, Sweeps, Reads, Shows}
+use Rattle.session.specs.Calls.{Text, opensTo, showsTo, HoldsFile, Opens, Judges, Sweeps, Writes, Shows}
 use Rattle.session.specs.ShowLaws.{entry-at}
 
 module _ (f : Bytes) (s : Session) (μ : List ℤ) (count : ℕ) (open-file : HoldsFile s f μ count) where
@@ -45,9 +45,10 @@ module _ (f : Bytes) (s : Session) (μ : List ℤ) (count : ℕ) (open-file : Ho
     pub sweep-rounded : 1 ≤ n → n ≤ 4096 → Near f (part ν) → a ≡ Settled after
     sweep-rounded from to h = call .rounded f μ ν count after open-file then (within-yes refl from to) (rounded f h)
 
-  module _ (buffer : Bytes) {a : ReadAnswer} {now : Bytes} (call : Reads s buffer a now) where
-    pub read-worth : {e : ℕ} → closeness f ≡ e → a ≡ Written → Worth f e (part μ)
-    read-worth close writing = worth f close (call .worth f μ count open-file writing)
+  -- of a record and of a page alike
+  module _ (size : ℕ → ℕ) (text : Text) (buffer : Bytes) {a : WriteAnswer} {now : Bytes} (call : Writes size text s buffer a now) where
+    pub write-worth : {e : ℕ} → closeness f ≡ e → a ≡ Written → Worth f e (part μ)
+    write-worth close writing = worth f close (call .worth f μ count open-file writing)
 
 -- ---- a call that is refused leaves the session as it was
 

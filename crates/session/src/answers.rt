@@ -21,7 +21,8 @@ pub enum SweepAnswer {
     Refused(u64, usize),
 }
 
-pub enum ReadAnswer {
+// Of a call that writes to a buffer.
+pub enum WriteAnswer {
     Written,
     Refused(u64, usize),
 }

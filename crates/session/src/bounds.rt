@@ -4,8 +4,11 @@
 ghost use Rattle.chain.specs.Decides.{Decides};
 ghost use Rattle.session.specs.Bounds.{PartFits, PartsFit, OfBounds, FrameFits};
 ghost use Rattle.session.specs.State.{Fits, sessionAt};
+ghost use Rattle.session.specs.WriteLaws.{Passing};
+use chain::judge::passes;
 use chain::judge::size;
 use chain::residues::residues;
+use layout::checks::Check;
 
 // A part's own weight, its diagonal entry, its right-hand side and its mean.
 fn part_fits(own: u64, diagonal: i64, right_hand: i64, mean: i64) -> bool
@@ -97,4 +100,31 @@ pub fn is_open<'a>(
     }
     let tested = residues(last, matrix, right_hand, mean);
     tested.fit
+}
+
+// 21, 24: what is asked before anything of the mean is written.
+pub fn check_passing<'a>(
+    last: usize,
+    closeness: u64,
+    total: u64,
+    own: &'a [u64; 31],
+    matrix: &'a [i64; 961],
+    right_hand: &'a [i64; 31],
+    mean: &'a [i64; 31],
+) -> Check
+    ensures { λ r. ⌜ Passing
+        (sessionAt last closeness total (now (own .entry)) (now (matrix .entry)) (now («right_hand» .entry)) (now (mean .entry)))
+        r ⌝ }
+{
+    if !frame_fits(last, closeness, total, own, matrix, right_hand, mean) {
+        return Check::Refuses(21, 0);
+    }
+    let tested = residues(last, matrix, right_hand, mean);
+    if !tested.fit {
+        return Check::Refuses(21, 0);
+    }
+    if !passes(last, closeness, own, &tested.residues) {
+        return Check::Refuses(24, 0);
+    }
+    Check::Clear
 }

@@ -2,16 +2,17 @@
 ghost use mathlib.Core.Path.{_≡_};
 ghost use Rattle.definitions.specs.Machine.{State};
 ghost use Rattle.session.specs.State.{stateOf};
-ghost use Rattle.session.specs.Calls.{Opens, Judges, Sweeps, Reads, Shows};
+ghost use Rattle.session.specs.Calls.{Opens, Judges, Sweeps, Reads, Pages, Shows};
 use crate::Session;
 use crate::answers::JudgeAnswer;
 use crate::answers::Opening;
-use crate::answers::ReadAnswer;
 use crate::answers::Showing;
 use crate::answers::Sweeping;
+use crate::answers::WriteAnswer;
 use crate::lent::figures_lent;
 use crate::lent::judge_lent;
 use crate::lent::open_lent;
+use crate::lent::page_lent;
 use crate::lent::read_lent;
 use crate::lent::sweep_lent;
 use crate::state::empty;
@@ -98,10 +99,26 @@ pub fn sweep(s: Session, n: u64) -> Sweeping
 }
 
 // 21, 24, 13. The record at the front of the buffer; the bytes behind it stay.
-pub fn read(s: Session, buffer: &mut [u8]) -> ReadAnswer
+pub fn read(s: Session, buffer: &mut [u8]) -> WriteAnswer
     ensures { λ r. ⌜ Reads s (now (buffer .entry)) r (now (buffer .exit)) ⌝ }
 {
     read_lent(
+        s.figures.last,
+        s.figures.closeness,
+        s.total,
+        &s.figures.own,
+        &s.figures.matrix,
+        &s.figures.right_hand,
+        &s.mean,
+        buffer,
+    )
+}
+
+// 21, 24, 13. The page at the front of the buffer; the bytes behind it stay.
+pub fn page(s: Session, buffer: &mut [u8]) -> WriteAnswer
+    ensures { λ r. ⌜ Pages s (now (buffer .entry)) r (now (buffer .exit)) ⌝ }
+{
+    page_lent(
         s.figures.last,
         s.figures.closeness,
         s.total,

@@ -1,15 +1,16 @@
 // The calls over a session whose arrays are lent: the figures of the file (J, closeness, own weights, matrix and right-hand side),
 // the mean and the sweeps run since open. A call that is not refused changes what it is lent by `&mut` and nothing else.
 ghost use Rattle.session.specs.State.{sessionAt, sessionHeld};
-ghost use Rattle.session.specs.Calls.{Opens, Judges, Sweeps, Reads, Shows};
+ghost use Rattle.session.specs.Calls.{Opens, Judges, Sweeps, Reads, Pages, Shows};
 ghost use Rattle.session.specs.ShowCall.{Zeros, PartsShown};
 ghost use Rattle.session.specs.SweepCall.{OpenSweep};
 ghost use Rattle.session.specs.Diagonal.{OfDiagonal, DiagonalOf};
 use crate::answers::JudgeAnswer;
 use crate::answers::OpenAnswer;
-use crate::answers::ReadAnswer;
 use crate::answers::Showing;
 use crate::answers::SweepAnswer;
+use crate::answers::WriteAnswer;
+use crate::bounds::check_passing;
 use crate::bounds::frame_fits;
 use crate::bounds::is_open;
 use crate::shown::answer_shown;
@@ -30,6 +31,8 @@ use layout::checks::Check;
 use layout::checks::file::check_file;
 use layout::places::last_year;
 use layout::places::record_length;
+use pages::page_length;
+use pages::write_page;
 use readings::closeness_of;
 use records::parse;
 use records::write_record;
@@ -180,27 +183,47 @@ pub fn read_lent<'a>(
     right_hand: &'a [i64; 31],
     mean: &'a [i64; 31],
     buffer: &'a mut [u8],
-) -> ReadAnswer
+) -> WriteAnswer
     ensures { λ r. ⌜ Reads
         (sessionAt last closeness total (now (own .entry)) (now (matrix .entry)) (now («right_hand» .entry)) (now (mean .entry)))
         (now (buffer .entry)) r (now (buffer .exit)) ⌝ }
 {
-    if !frame_fits(last, closeness, total, own, matrix, right_hand, mean) {
-        return ReadAnswer::Refused(21, 0);
-    }
-    let tested = residues(last, matrix, right_hand, mean);
-    if !tested.fit {
-        return ReadAnswer::Refused(21, 0);
-    }
-    if !passes(last, closeness, own, &tested.residues) {
-        return ReadAnswer::Refused(24, 0);
+    let checked = check_passing(last, closeness, total, own, matrix, right_hand, mean);
+    if let Check::Refuses(number, place) = checked {
+        return WriteAnswer::Refused(number, place);
     }
     let year = last as u8;
     if buffer.len() < record_length(year) {
-        return ReadAnswer::Refused(13, 0);
+        return WriteAnswer::Refused(13, 0);
     }
     write_record(buffer, year, mean);
-    ReadAnswer::Written
+    WriteAnswer::Written
+}
+
+// 21, 24, 13. The page at the front of the buffer; the bytes behind it stay.
+pub fn page_lent<'a>(
+    last: usize,
+    closeness: u64,
+    total: u64,
+    own: &'a [u64; 31],
+    matrix: &'a [i64; 961],
+    right_hand: &'a [i64; 31],
+    mean: &'a [i64; 31],
+    buffer: &'a mut [u8],
+) -> WriteAnswer
+    ensures { λ r. ⌜ Pages
+        (sessionAt last closeness total (now (own .entry)) (now (matrix .entry)) (now («right_hand» .entry)) (now (mean .entry)))
+        (now (buffer .entry)) r (now (buffer .exit)) ⌝ }
+{
+    let checked = check_passing(last, closeness, total, own, matrix, right_hand, mean);
+    if let Check::Refuses(number, place) = checked {
+        return WriteAnswer::Refused(number, place);
+    }
+    if buffer.len() < page_length(last) {
+        return WriteAnswer::Refused(13, 0);
+    }
+    write_page(buffer, last, mean, own);
+    WriteAnswer::Written
 }
 
 // How many parts are shown: all of an open file, and otherwise none. Their matrix is put in an array of zeros.

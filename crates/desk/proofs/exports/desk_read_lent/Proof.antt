@@ -1,6 +1,6 @@
 -- `exports::desk_read_lent` meets its contract: its answer stands for the session's.
 use borrow.Author.Needs.{needs}
-use Rattle.desk.specs.CallLaws.{reads-told}
+use Rattle.desk.specs.CallLaws.{writes-told}
 use Rattle.desk.proofs.exports.desk_read_lent.Statement.{statement}
 use Rattle.desk.proofs.exports.desk_read_lent.Tie as tie
 
@@ -16,14 +16,14 @@ element-copy-out-read-lent-3 c = search needs
 read-lent-requires : tie.Need-read-lent-requires
 read-lent-requires c κs = search needs
 
-read-told-requires : tie.Need-read-told-requires
-read-told-requires c κs = search needs
+write-told-requires : tie.Need-write-told-requires
+write-told-requires c κs = search needs
 
 same-length : tie.Need-same-length
 same-length c = search needs
 
 returns : tie.Need-returns
-returns c = reads-told _ _ _ _ (c .before .before .before .read-lent .ensures) (c .read-told .ensures)
+returns c = writes-told _ _ _ _ _ _ (c .before .before .before .read-lent .ensures) (c .write-told .ensures)
 
 pub desk-read-lent-spec : {M : Type 1} → statement M
 desk-read-lent-spec =
@@ -33,6 +33,6 @@ desk-read-lent-spec =
     element-copy-out-read-lent-2
     element-copy-out-read-lent-3
     read-lent-requires
-    read-told-requires
+    write-told-requires
     same-length
     returns)

@@ -1,0 +1,60 @@
+-- What `settle` tells of the bytes given.
+use Prim.Native.Nat.{ℕ, _≤_, _<_}
+use mathlib.Core.Path.{_≡_, refl, sym, ap, subst, _∙_}
+use mathlib.Core.List.{List, _++_}
+use native.Mathlib.Omega.{arith}
+use borrow.Author.Tests.{le-ltb}
+use lib.IntN.{ℤ}
+use lib.ListN.{length, drop}
+use Rattle.definitions.specs.Layout.{Bytes, lastYear}
+use Rattle.definitions.specs.Matrix.{figuresOf}
+use Rattle.definitions.specs.Programs.{Show, programText, refusalLine, spentLine}
+use Rattle.definitions.specs.Machine.{opened, refused, written, writeCall}
+use Rattle.laws.specs.Printed.{MeanSettled, Ends, opening, sweeping, swept-ends}
+use Rattle.session.specs.declared.Session.{Session}
+use Rattle.session.specs.declared.answers.SweepAnswer.{SweepAnswer}
+use Rattle.session.specs.declared.answers.SweepAnswer.the-variants.{Settled, Going, Refused}
+use Rattle.session.specs.declared.answers.Sweeping.{Sweeping}
+use Rattle.session.specs.declared.answers.WriteAnswer.{WriteAnswer}
+use Rattle.session.specs.declared.answers.WriteAnswer.the-variants.{Refused as WriteRefused}
+use Rattle.session.specs.State.{stateOf}
+use Rattle.session.specs.Calls.{ofSweep, ofWrite, Text, Writes}
+
+-- by its answer: what is printed, whatever would be shown of a mean; or that the session holds the mean that is shown
+pub record Settles (given : Bytes) (r : Sweeping) : Type 0 where
+  pub refused : (number place : ℕ) → r .answer ≡ Refused number place
+      → (show : Show) → programText show given ≡ refusalLine number place
+  pub going : (total : ℕ) → r .answer ≡ Going total → (show : Show) → programText show given ≡ spentLine total
+  pub settled : (total : ℕ) → r .answer ≡ Settled total → MeanSettled given (stateOf (r .session)) total
+
+module _ (given : Bytes) (r : Sweeping) where
+  pub settles-by : Ends given (stateOf (r .session)) (ofSweep (r .answer)) → Settles given r
+  settles-by e = record { refused = λ number place same. told same; going = λ total same. told same; settled = λ total same. told same }
+    where
+      told : {a : SweepAnswer} → r .answer ≡ a → Ends given (stateOf (r .session)) (ofSweep a)
+      told same = subst (λ a. Ends given (stateOf (r .session)) (ofSweep a)) same e
+
+  pub settles-swept : length given < 2807 → opened ≡ opening given .answer
+      → ofSweep (r .answer) ≡ sweeping given .answer → stateOf (r .session) ≡ sweeping given .state → Settles given r
+  settles-swept short taken answer state = settles-by (rw (answer, state) (swept-ends given short taken))
+
+-- ---- what is written of a mean that settled
+
+-- the whole text, and no refusal
+pub record WritesWhole (size : ℕ → ℕ) (text : Text) (given : Bytes) (μ : List ℤ) (before : Bytes) (r : WriteAnswer) (after : Bytes)
+    : Type 0 where
+  pub taken : (number place : ℕ) → r ≡ WriteRefused number place → ⊥
+  pub buffer : after ≡ text (figuresOf given) μ ++ drop (size (lastYear given)) before
+
+refused-written : {number place : ℕ} → refused number place ≡ written → ⊥
+refused-written e = let z : _≡_ {A = ℕ} 0 1 = cc in omega arith
+
+-- it passes, so that only the room counts
+pub writes-whole : {size : ℕ → ℕ} {text : Text} {given : Bytes} {s : Session} {total : ℕ} {before after : Bytes} {r : WriteAnswer}
+    → (m : MeanSettled given (stateOf s) total) → Writes size text s before r after → size (lastYear given) ≤ length before
+    → WritesWhole size text given (m .mean) before r after
+unfolding writeCall figuresOf
+writes-whole m w room = let enough = le-ltb _ _ room in record {
+  taken = λ number place told. refused-written (sym (ap ofWrite told) ∙ w .answer ∙ rw (m .state, m .passing, enough) refl);
+  buffer = w .buffer ∙ rw (m .state, m .passing, enough) refl;
+}

@@ -1,0 +1,90 @@
+/* Sessions of arbitrary bytes: every call answers, and changes nothing where it is refused. */
+#include "support.h"
+
+static uint64_t drawn(void) { /* xorshift: the same numbers in every run */
+    static uint64_t state = 88172645463325252;
+    state ^= state << 13;
+    state ^= state >> 7;
+    return state ^= state << 17;
+}
+
+static int is_one_of(uint64_t number, const uint64_t *numbers) { /* which a 0 ends: the call may also do its job */
+    while (*numbers != 0 && *numbers != number) numbers++;
+    return *numbers == number;
+}
+
+/* Whether there are so many bytes, in lines of 28, and zeros behind. */
+static int are_lines(const uint8_t page[DESK_LONGEST_PAGE], size_t length) {
+    for (size_t k = 0; k < DESK_LONGEST_PAGE; k++) {
+        if ((page[k] == '\n') != (k < length && k % 28 == 27) || (page[k] == 0) != (k >= length)) return 0;
+    }
+    return 1;
+}
+
+/* A record and a page are refused alike; where they are not, the page has a line for each part, and nothing is written behind. */
+static void expect_written_alike(const desk_session *s) {
+    static const uint64_t WRITE[] = {21, 24, 0};
+    uint8_t record[DESK_LONGEST_RECORD], page[DESK_LONGEST_PAGE] = {0};
+    const uint64_t number = desk_page(s, page, sizeof page).number;
+    EXPECT(is_one_of(number, WRITE));
+    EXPECT(desk_read(s, record, sizeof record).number == number);
+    EXPECT(are_lines(page, number == 0 ? 28 * (2 * s->held[0] + 1) : 0));
+}
+
+/* Every call on a session that no call has made: it answers, and changes nothing where it is refused. */
+static void expect_answers(desk_session *s) {
+    static const uint64_t JUDGE[] = {21, 4, 0}, SWEEP[] = {21, 23, 0}, OPEN[] = {22, 0};
+    uint8_t file[F_LENGTH], record[F_RECORD];
+    const int64_t parts[3] = {MOST_PART, -MOST_PART, 0};
+    file_f(file, 1);
+    desk_session before = *s;
+    EXPECT(is_one_of(desk_judge(s, record, record_of(record, parts, 3)).refusal.number, JUDGE));
+    expect_written_alike(s);
+    EXPECT((desk_figures(s).refusal.number == 21) == (desk_sweep(s, 0).refusal.number == 21));
+    EXPECT(memcmp(&before, s, sizeof before) == 0);
+    const desk_sweeping swept = desk_sweep(s, drawn() % DESK_MOST_SWEEPS + 1);
+    EXPECT(is_one_of(swept.refusal.number, SWEEP));
+    EXPECT(swept.refusal.number == 0 || memcmp(&before, s, sizeof before) == 0);
+    before = *s;
+    const desk_refusal refusal = desk_open(s, file, sizeof file);
+    EXPECT(is_one_of(refusal.number, OPEN));
+    EXPECT(refusal.number == 0 || memcmp(&before, s, sizeof before) == 0);
+    desk_close(s);
+    EXPECT_REFUSED(s, desk_sweep(s, 1).refusal, 21, 0);
+    EXPECT_DONE(desk_open(s, file, sizeof file));
+    expect_passed(judged(s, 10 * T, T, -T));
+}
+
+static void test_arbitrary_sessions(void) {
+    desk_session s;
+    uint8_t *bytes = (uint8_t *)&s;
+    for (int value = 0; value <= 0xFF; value++) {
+        memset(&s, value, sizeof s);
+        expect_answers(&s);
+    }
+    for (int round = 0; round < 200; round++) { /* drawn bytes, with heads from none right to all right */
+        for (size_t k = 0; k < sizeof s; k++) bytes[k] = (uint8_t)drawn();
+        if (round % 2) s.held[0] = drawn() % 18;
+        if (round % 3) s.held[1] = drawn() % 65538;
+        if (round % 5) s.held[2] = drawn() % 4098;
+        expect_answers(&s);
+    }
+    for (int round = 0; round < 200; round++) { /* an open session with a byte changed */
+        s = opened_f(1 + drawn() % 65536);
+        bytes[drawn() % sizeof s] ^= (uint8_t)(1 + drawn() % 255);
+        expect_answers(&s);
+    }
+    for (int round = 0; round < 200; round++) { /* one of the fields in use at an extreme */
+        s = opened_f(1);
+        int64_t *fields[] = {&s.matrix[drawn() % 65], &s.right_hand[drawn() % 3], &s.mean[drawn() % 3]};
+        *fields[round % 3] = round % 2 ? INT64_MIN : INT64_MAX;
+        s.own[drawn() % 3] = round % 7 ? s.own[0] : UINT64_MAX;
+        expect_answers(&s);
+    }
+}
+
+int main(void) {
+    RUN(test_arbitrary_sessions)();
+    printf("%lu\n", checked);
+    return 0;
+}
