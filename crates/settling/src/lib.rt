@@ -1,4 +1,4 @@
-// What the two programs share: the file that is given is opened and swept, and what is printed is gathered whole.
+// What the two programs share: they open the file that is given and sweep, and gather what they print before they write it.
 ghost use Rattle.definitions.specs.Programs.{refusalLine, spentLine};
 ghost use Rattle.settling.specs.Printed.{Prints};
 ghost use Rattle.settling.specs.Settles.{Settles};
@@ -14,13 +14,14 @@ use text::put::put_refusal;
 // One byte more than the longest file has, so that a longer input shows.
 pub const ROOM: usize = 2807;
 
-// The bytes up to `end`. No program prints more than there is room for.
+// What is printed: the bytes up to `end`. For every input there is room for all of it.
 pub struct Printed {
     pub bytes: [u8; 4096],
     pub end: usize,
 }
 
-// Opens the bytes given and sweeps with n = 4,096: the answer of the first of the two that is no further.
+// Opens the bytes given and sweeps with n = 4,096. An input that cannot be opened is told as a refused sweep, so that a program has
+// one answer to go by.
 pub fn settle(given: &[u8]) -> Sweeping
     ensures { λ r. ⌜ Settles (now (given .entry)) r ⌝ }
 {
