@@ -13,10 +13,11 @@
 --   Machine        the session machine: each call's answer, and state and buffer afterwards
 --   Programs       what the programs print: the listing, and the page of a settled mean
 --   Guarantee      demand 3: what a passed mean is worth, and which means must pass
---   JointTable     the starred figures, as one theorem
+--   JointTable     the starred figures, with the page and the listing of F, as one theorem
 -- The words that the definitions are written in: ℕ and its operations, in which a difference stops at 0 and n / 0 is 0; lists
 -- (`lib.ListN`); ℤ (`lib.IntN`); tests (`leb`, `ltb`, `eqb` of `lib.Dec`); `sum n f`, which is f 0 + … + f (n − 1) over ℤ, and
--- `total n f`, the same over ℕ (both of `integers`, `Summation`); and the three of `Words`.
+-- `total n f`, the same over ℕ (both of `integers`, `Summation`); quoted texts, by their characters' codes (`ascii` of `Text`); and the
+-- three of `Words`.
 pub mod Words
 pub mod Logarithm
 pub mod Weight

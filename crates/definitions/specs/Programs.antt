@@ -24,8 +24,7 @@ partLine p mean = nameOf p ++ space ∷ decimal (indexOf p) ++ space ∷ signedD
 
 -- `refused `, a number, ` at `, a place
 abbrev pub refusalLine : ℕ → ℕ → Bytes
-refusalLine number place =
-    (ascii "refused " ++ decimal number) ++ countLine (ascii " at ") place
+refusalLine number place = (ascii "refused " ++ decimal number) ++ countLine (ascii " at ") place
 
 -- `spent `
 abbrev pub spentLine : ℕ → Bytes
