@@ -16,7 +16,6 @@ use Rattle.definitions.specs.Matrix.{Part, Φ, Ψ, partOf, own, figuresOf}
 use Rattle.definitions.specs.Text.{ascii, space, lineFeed, decimalFrom, moreDigits, decimal, signedDecimal, aligned, nameOf, indexOf}
 use Rattle.definitions.specs.Page.{pageLine, pageOf}
 use Rattle.definitions.specs.Machine.{accepted}
-use Rattle.definitions.specs.Guarantee.{InsideLimits}
 use Rattle.laws.specs.Accepted.{accepted-file}
 use Rattle.laws.specs.FileLimits.{file-limits}
 use Rattle.laws.specs.Judged.{tab-at}
@@ -205,7 +204,8 @@ page-cong J μ ν D E means weights =
     lines-same _ _ (parts J) (λ k below. ap₂ (pageLine (partOf J k)) (means k below) (weights k below))
 
 -- every value of an accepted file and of a mean inside the limits fits its columns
-pub file-page-fits : (f : Bytes) → accepted f ≡ true → (μ : List ℤ) → InsideLimits f (part μ) → PageFits (lastYear f) μ (figuresOf f .own)
+pub file-page-fits : (f : Bytes) → accepted f ≡ true → (μ : List ℤ)
+    → ((k : ℕ) → k < parts (lastYear f) → natAbs (part μ k) ≤ partLimit) → PageFits (lastYear f) μ (figuresOf f .own)
 unfolding figuresOf
 file-page-fits f yes-file μ inside =
     let h = accepted-file f yes-file in

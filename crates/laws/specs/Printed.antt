@@ -6,11 +6,11 @@ use mathlib.Core.List.{List, [], _∷_, _++_}
 use native.Mathlib.Decide.{decLe}
 use native.Mathlib.Omega.{arith}
 use borrow.Author.Tests.{le-leb, lt-leb}
-use lib.IntN.{ℤ}
+use lib.IntN.{ℤ, natAbs}
 use lib.ListN.{length, length-append}
 use Rattle.definitions.specs.Words.{tabFrom, part}
 use Rattle.definitions.specs.Layout.{Bytes, lastYear, parts, priorMean}
-use Rattle.definitions.specs.Refusals.{Check, clear, refuses, yearLimit}
+use Rattle.definitions.specs.Refusals.{Check, clear, refuses, yearLimit, partLimit}
 use Rattle.definitions.specs.Matrix.{Part, partOf, Figures, figuresOf, passes}
 use Rattle.definitions.specs.Sweep.{Swept, sweeps}
 use Rattle.definitions.specs.Text.{ascii, space, lineFeed, moreDigits, decimal, signedDecimal, nameOf, indexOf, lines}
@@ -18,7 +18,6 @@ use Rattle.definitions.specs.Machine.{Answer, refused, opened, judged, settled,
 use Rattle.definitions.specs.Machine.{State, empty, holds, Outcome, openCheck, isClear, accepted, openUnless, openCall, sweepCall}
 use Rattle.definitions.specs.Programs.{countLine, partLine, refusalLine, spentLine, Show, printed, shown, sweepText, openText, programText}
 use Rattle.definitions.specs.Programs.{listed, listing}
-use Rattle.definitions.specs.Guarantee.{InsideLimits}
 use Rattle.laws.specs.Accepted.{accepted-file}
 use Rattle.laws.specs.SweepLaws.{MeanOf, sweeps-came}
 use Rattle.laws.specs.MachineLaws.{priors-mean}
@@ -34,7 +33,7 @@ pub record MeanSettled (given : Bytes) (st : State Figures) (total : ℕ) : Type
   pub file : accepted given ≡ true
   pub state : st ≡ holds (figuresOf given) mean total
   pub passing : passes (figuresOf given) (part mean) ≡ true
-  pub inside : InsideLimits given (part mean)
+  pub inside : (k : ℕ) → k < parts (lastYear given) → natAbs (part mean k) ≤ partLimit
   pub text : (show : Show) → programText show given ≡ show (figuresOf given) mean total
 
 -- What is printed, whatever is shown of a mean, where the last call gave this answer and left this state. Only open and sweep are called.

@@ -2,7 +2,6 @@
 // the mean and the sweeps run since open. A call that is not refused changes what it is lent by `&mut` and nothing else.
 ghost use Rattle.session.specs.State.{sessionAt, sessionHeld};
 ghost use Rattle.session.specs.Calls.{Opens, Judges, Sweeps, Reads, Pages, Shows};
-ghost use Rattle.session.specs.ShowCall.{Zeros, PartsShown};
 ghost use Rattle.session.specs.SweepCall.{OpenSweep};
 ghost use Rattle.session.specs.Diagonal.{OfDiagonal, DiagonalOf};
 use crate::answers::JudgeAnswer;
@@ -15,8 +14,8 @@ use crate::bounds::frame_fits;
 use crate::bounds::is_open;
 use crate::shown::answer_shown;
 use crate::shown::closeness_shown;
-use crate::shown::matrix_shown;
 use crate::shown::own_shown;
+use crate::shown::parts_shown;
 use crate::shown::right_hand_shown;
 use chain::arrays::Figures;
 use chain::arrays::Working;
@@ -224,29 +223,6 @@ pub fn page_lent<'a>(
     }
     write_page(buffer, last, mean, own);
     WriteAnswer::Written
-}
-
-// How many parts are shown: all of an open file, and otherwise none. Their matrix is put in an array of zeros.
-fn parts_shown<'a>(
-    last: usize,
-    closeness: u64,
-    total: u64,
-    own: &'a [u64; 31],
-    matrix: &'a [i64; 961],
-    right_hand: &'a [i64; 31],
-    mean: &'a [i64; 31],
-    shown: &'a mut [i64; 961],
-) -> usize
-    requires { ⌜ Zeros (now shown) ⌝ }
-    ensures { λ r. ⌜ PartsShown
-        (sessionAt last closeness total (now (own .entry)) (now (matrix .entry)) (now («right_hand» .entry)) (now (mean .entry)))
-        r (now (shown .exit)) ⌝ }
-{
-    let framed = frame_fits(last, closeness, total, own, matrix, right_hand, mean);
-    if !framed {
-        return 0;
-    }
-    matrix_shown(2 * last + 1, matrix, shown)
 }
 
 // 21. The session is as it was. With no part shown every number is 0, so that a refusal takes the same way: the matrix is copied once.

@@ -3,9 +3,11 @@
 // `count` is 0, and so is every number.
 ghost use mathlib.Core.Path.{_≡_};
 ghost use Rattle.session.specs.Calls.{noFigures};
-ghost use Rattle.session.specs.ShowCall.{OfRow, OfMatrix, RowShown, MatrixShown, answerShown, closenessShown};
+ghost use Rattle.session.specs.ShowCall.{OfRow, OfMatrix, RowShown, MatrixShown, Zeros, PartsShown, answerShown, closenessShown};
+ghost use Rattle.session.specs.State.{sessionAt};
 ghost use Rattle.session.specs.Shown.{OfParts, ownShown, rightHandShown};
 use crate::answers::FiguresAnswer;
+use crate::bounds::frame_fits;
 use chain::arrays::Figures;
 use chain::residues::entry_fits;
 
@@ -101,4 +103,27 @@ pub fn matrix_shown(count: usize, matrix: &[i64; 961], shown: &mut [i64; 961]) -
         k += 1;
     }
     count
+}
+
+// How many parts are shown: all of an open file, and otherwise none. Their matrix is put in an array of zeros.
+pub fn parts_shown<'a>(
+    last: usize,
+    closeness: u64,
+    total: u64,
+    own: &'a [u64; 31],
+    matrix: &'a [i64; 961],
+    right_hand: &'a [i64; 31],
+    mean: &'a [i64; 31],
+    shown: &'a mut [i64; 961],
+) -> usize
+    requires { ⌜ Zeros (now shown) ⌝ }
+    ensures { λ r. ⌜ PartsShown
+        (sessionAt last closeness total (now (own .entry)) (now (matrix .entry)) (now («right_hand» .entry)) (now (mean .entry)))
+        r (now (shown .exit)) ⌝ }
+{
+    let framed = frame_fits(last, closeness, total, own, matrix, right_hand, mean);
+    if !framed {
+        return 0;
+    }
+    matrix_shown(2 * last + 1, matrix, shown)
 }

@@ -1,4 +1,4 @@
--- `lent::parts_shown` meets its contract: a session fits exactly if its frame and its rows do.
+-- `shown::parts_shown` meets its contract: a session fits exactly if its frame and its rows do.
 use mathlib.Core.Path.{refl, _∙_}
 use native.Mathlib.Omega.{arith}
 use borrow.Author.Needs.{needs}
@@ -8,8 +8,8 @@ use Rattle.session.specs.declared.Session.{Session}
 use Rattle.session.specs.State.{sessionAt}
 use Rattle.session.specs.Fitted.{Framed, fits, frame, rows}
 use Rattle.session.specs.Mirrored.{mirrored-none, mirrored-is}
-use Rattle.session.proofs.lent.parts_shown.Statement.{statement}
-use Rattle.session.proofs.lent.parts_shown.Tie as tie
+use Rattle.session.proofs.shown.parts_shown.Statement.{statement}
+use Rattle.session.proofs.shown.parts_shown.Tie as tie
 
 frame-fits-requires : tie.Need-frame-fits-requires
 frame-fits-requires c κs = search needs
