@@ -6,7 +6,7 @@
         desk.open(file)
         if desk.sweep().settled:
             mean = desk.read()
-            print(desk.page())
+            print(desk.page(), end="")
 
 A file is bytes; `file_of` makes one from plain numbers. A call that is refused raises `Refused`, which tells the desk's number and
 place, what the number means, the field, the number that stood there and what is allowed. Parts of a mean are ticks: a doubling has

@@ -14,7 +14,7 @@ use Rattle.definitions.specs.Weight.{weight}
 use Rattle.definitions.specs.Layout.{Bytes, bigEndian, unsigned, twosComplement, rowStart}
 use Rattle.definitions.specs.Refusals.{fields, check1, check2, check3, check4, check5, check6, check7, check8, check9, check10, fileCheck}
 use Rattle.definitions.specs.Observations.{Chain, chainOf, ratioVariance, paidStep, incurredStep, lastRatio}
-use Rattle.definitions.specs.Matrix.{Figures, figuresOf, partOf, own, matrix, rightHand, residue, passed, fails, judgement, judgeFrom}
+use Rattle.definitions.specs.Matrix.{Φ, Ψ, Figures, figuresOf, partOf, own, matrix, rightHand, residue, passed, fails, judgement, judgeFrom}
 use Rattle.definitions.specs.Text.{ascii, decimalFrom, signedDecimal, aligned, nameOf, indexOf, lines}
 use Rattle.definitions.specs.Page.{pageLine, pageOf}
 use Rattle.definitions.specs.Machine.{accepted, check16, refused, written, State, empty, holds, Outcome, openCall, sweepCall, writeCall, pageCall}
@@ -95,6 +95,9 @@ pub record JointTable : Type 0 where
       ≡ ascii "phi  0  10485760     131073\n"
       ++ ascii "phi  1   1048576      65537\n"
       ++ ascii "psi  0  -1048576      65537\n"
+  -- the widest of its numbers, and the narrowest
+  pub widest-line : pageLine (Φ 15) (negsuc 67108863) 4563402752 ≡ ascii "phi 15 -67108864 4563402752\n"
+  pub narrowest-line : pageLine (Ψ 0) (pos 0) 65 ≡ ascii "psi  0         0         65\n"
   -- the call of F's page: 21, 24, 13; behind it stands what stood there
   pub F-page-closed : pageOfF empty 84 .answer ≡ refused 21 0
   pub F-page-failing : pageOfF (holds F (mean 2 0) 0) 83 .answer ≡ refused 24 0
@@ -131,6 +134,8 @@ jointTable = record {
   part-1-fails = refl;
   part-1-passes-with-e-2 = refl;
   F-page = refl;
+  widest-line = refl;
+  narrowest-line = refl;
   F-page-closed = refl;
   F-page-failing = refl;
   F-page-short = refl;

@@ -113,14 +113,18 @@ module _ (s : Session) (lent : Bytes) where
     judge-done = call .numbered 0
 
   module _ (size : ℕ → ℕ) (text : Text) (r : Refusal) (after : Bytes) (call : Writes size text s lent r after) where
-    pub write-told : writesTo size text (stateOf s) lent .answer ≡ refused 24 0 → r ≡ refusal 24 0
-    write-told e = call .told ∙ ap refusalTold e
+    pub write-told : r ≡ refusalTold (writesTo size text (stateOf s) lent .answer)
+    write-told = call .told
 
     pub write-buffer : after ≡ writesTo size text (stateOf s) lent .buffer
     write-buffer = call .buffer
 
     pub write-done : writesTo size text (stateOf s) lent .answer ≢ refused 0 0
     write-done = call .numbered 0
+
+  pub page-closed : (r : Refusal) (after : Bytes) → Pages s lent r after → stateOf s ≡ empty → (r ≡ refusal 21 0) × (after ≡ lent)
+  unfolding writeCall
+  page-closed r after call none = (call .told ∙ rw none refl, call .buffer ∙ rw none refl)
 
   -- of a mean that passes, and room for what is written
   module _ (F : Figures) (μ : List ℤ) (count : ℕ) (some : stateOf s ≡ holds F μ count) (p : passes F (part μ) ≡ true) where

@@ -1,29 +1,19 @@
 -- Numbers as text: how many bytes they have, that they are read back whole, and that none of their bytes ends a line.
 use Prim.Native.Nat.{ℕ, zero, suc, _+_, _*_, _-_, _/_, _%_, _^_, _≤_, _<_}
 use mathlib.Core.Path.{_≡_, refl, sym, ap, subst, _∙_}
-use mathlib.Core.Bool.{Bool, cond}
+use mathlib.Core.Bool.{Bool, true, false, cond, _&&_, false≢true}
+use mathlib.Core.Option.{some}
 use mathlib.Core.List.{[], _∷_, _++_}
 use native.Mathlib.Nat.{pow-suc}
 use native.Mathlib.Decide.{decLt}
 use native.Mathlib.Omega.{arith}
-use borrow.Author.Tests.{lt-ltb, le-ltb, ne-eqb}
-use lib.Dec.{eqb}
-use lib.IntN.{ℤ, pos, negsuc, natAbs, negℤ}
+use borrow.Author.Tests.{lt-ltb, le-ltb, le-leb, ne-eqb}
+use lib.IntN.{ℤ, pos, negsuc, natAbs}
 use lib.ListN.{length, replicate, length-append, length-replicate}
 use Rattle.definitions.specs.Layout.{Bytes}
+use Rattle.definitions.specs.Words.{within}
 use Rattle.definitions.specs.Text.{space, minus, digit, decimalFrom, moreDigits, decimal, signedDecimal, aligned}
-
--- ---- reading a number
-
--- the number that digits spell behind those of a
-unfoldable pub spelt : ℕ → Bytes → ℕ
-spelt a [] = a
-spelt a (x ∷ xs) = spelt (a * 10 + (x - digit 0)) xs
-
--- a number as a reader of its columns takes it: spaces count for nothing, and `-` says that it is below zero
-unfoldable pub readNumber : Bytes → ℤ
-readNumber [] = pos 0
-readNumber (x ∷ xs) = cond (eqb x space) (readNumber xs) (cond (eqb x minus) (negℤ (pos (spelt 0 xs))) (pos (spelt 0 (x ∷ xs))))
+use Rattle.definitions.specs.Text.{spelt, areDigits, readDigits, readNumber}
 
 spelt-append : (a : ℕ) (xs ys : Bytes) → spelt a (xs ++ ys) ≡ spelt (spelt a xs) ys
 unfolding spelt
@@ -116,25 +106,50 @@ decimal-digits = by-digits (λ more n t. Digits t) (λ more n small. record { so
       bytes = from-append (digit 0) (decimalFrom more (n / 10)) (digit (n % 10) ∷ []) (d .bytes) (omega arith, tt);
     }
 
-digits-read : (t : Bytes) → Digits t → readNumber t ≡ pos (spelt 0 t)
-unfolding readNumber From
-digits-read [] d = absurd (omega (arith, d .some))
-digits-read (x ∷ xs) d =
-    rw (ne-eqb x space (λ e. omega (arith, e, d .bytes .0)), ne-eqb x minus (λ e. omega (arith, e, d .bytes .0))) refl
+-- one digit more
+digits-snoc : (t : Bytes) (d : ℕ) → areDigits t ≡ true → within (digit 0) (digit 9) d ≡ true → areDigits (t ++ d ∷ []) ≡ true
+unfolding areDigits
+digits-snoc [] d h k = absurd (false≢true h)
+digits-snoc (x ∷ []) d h k = rw (h, k) refl
+digits-snoc (x ∷ y ∷ ys) d h k = by-first (within (digit 0) (digit 9) x) h (λ rest. digits-snoc (y ∷ ys) d rest k)
+  where
+    by-first : (b : Bool) → b && areDigits (y ∷ ys) ≡ true → (areDigits (y ∷ ys) ≡ true → areDigits (y ∷ ys ++ d ∷ []) ≡ true)
+        → b && areDigits (y ∷ ys ++ d ∷ []) ≡ true
+    by-first true h longer = longer h
+    by-first false h longer = absurd (false≢true h)
+
+decimal-are : (more n : ℕ) → n < 10 ^ suc more → areDigits (decimalFrom more n) ≡ true
+unfolding areDigits
+decimal-are = by-digits (λ more n t. n < 10 ^ suc more → areDigits t ≡ true) (λ more n small h. is-digit n (small h)) next
+  where
+    is-digit : (d : ℕ) → d < 10 → within (digit 0) (digit 9) (digit d) ≡ true
+    is-digit d h = rw (le-leb (digit 0) (digit d) (omega arith), le-leb (digit d) (digit 9) (omega arith)) refl
+
+    next : (more n : ℕ) → 10 ≤ n → (n / 10 < 10 ^ suc more → areDigits (decimalFrom more (n / 10)) ≡ true)
+        → n < 10 ^ suc (suc more) → areDigits (decimalFrom more (n / 10) ++ digit (n % 10) ∷ []) ≡ true
+    next more n ten shorter h =
+        digits-snoc (decimalFrom more (n / 10)) (digit (n % 10)) (shorter (omega (arith, h, pow-suc 10 (suc more)))) (is-digit (n % 10) (omega arith))
+
+digits-read : (t : Bytes) → Digits t → areDigits t ≡ true → readNumber t ≡ some (pos (spelt 0 t))
+unfolding readNumber readDigits From
+digits-read [] d e = absurd (omega (arith, d .some))
+digits-read (x ∷ xs) d e =
+    rw (ne-eqb x space (λ e. omega (arith, e, d .bytes .0)), ne-eqb x minus (λ e. omega (arith, e, d .bytes .0)), e) refl
 
 -- ---- a number in its columns
 
-signed-read : (z : ℤ) → natAbs z < 10 ^ suc moreDigits → readNumber (signedDecimal z) ≡ z
-unfolding signedDecimal readNumber
-signed-read (pos n) h = digits-read (decimal n) (decimal-digits moreDigits n) ∙ ap pos (decimal-spelt moreDigits n h)
-signed-read (negsuc n) h = ap (λ m. negℤ (pos m)) (decimal-spelt moreDigits (suc n) h)
+signed-read : (z : ℤ) → natAbs z < 10 ^ suc moreDigits → readNumber (signedDecimal z) ≡ some z
+unfolding signedDecimal readNumber readDigits
+signed-read (pos n) h =
+    digits-read (decimal n) (decimal-digits moreDigits n) (decimal-are moreDigits n h) ∙ ap (λ m. some (pos m)) (decimal-spelt moreDigits n h)
+signed-read (negsuc n) h = rw (decimal-are moreDigits (suc n) h, decimal-spelt moreDigits (suc n) h) refl
 
 spaces-read : (n : ℕ) (t : Bytes) → readNumber (replicate n space ++ t) ≡ readNumber t
 unfolding readNumber
 spaces-read zero t = refl
 spaces-read (suc n) t = spaces-read n t
 
-pub aligned-read : (columns : ℕ) (z : ℤ) → natAbs z < 10 ^ suc moreDigits → readNumber (aligned columns (signedDecimal z)) ≡ z
+pub aligned-read : (columns : ℕ) (z : ℤ) → natAbs z < 10 ^ suc moreDigits → readNumber (aligned columns (signedDecimal z)) ≡ some z
 unfolding aligned
 aligned-read columns z h = spaces-read (columns - length (signedDecimal z)) (signedDecimal z) ∙ signed-read z h
 

@@ -57,6 +57,18 @@ held-write size text empty b = refl
 held-write size text (holds f μ total) b =
     sym (held-cond₂ (not (passes (figuresOf f) (part μ))) (ltb (length b) (size (figuresOf f .last))) _ _ _)
 
+-- and it leaves the state as it was
+pub write-alone : (size : ℕ → ℕ) (text : Figures → List ℤ → Bytes) (st : State Figures) (b : Bytes)
+    → writeCall Figures figuresOf (λ F. F) size text st b .state ≡ st
+unfolding writeCall
+write-alone size text empty b = refl
+write-alone size text (holds F μ total) b =
+    same (not (passes F (part μ))) _ _ refl (same (ltb (length b) (size (F .last))) _ _ refl refl)
+  where
+    same : (t : Bool) (x y : Outcome Figures) → x .state ≡ holds F μ total → y .state ≡ holds F μ total → cond t x y .state ≡ holds F μ total
+    same true x y first second = first
+    same false x y first second = second
+
 pub machine-on-figures : (st : State Bytes) (call : Call) → figuresMachine (heldState st) call ≡ heldOutcome (machine st call)
 unfolding outcome openCall judgeCall sweepCall
 machine-on-figures empty (open-file f) = held-open (openCheck f) f

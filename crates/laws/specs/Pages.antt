@@ -1,8 +1,9 @@
 -- The page: every value fits its columns, and two different means never share a page.
-use Prim.Native.Nat.{ℕ, _+_, _*_, _-_, _^_, _≤_, _<_}
+use Prim.Native.Nat.{ℕ, _+_, _-_, _^_, _≤_, _<_}
 use mathlib.Core.Path.{_≡_, refl, sym, ap, ap₂, _∙_}
 use mathlib.Core.Bool.{Bool, true, false, cond}
 use mathlib.Core.List.{List, [], _∷_, _++_, append-assoc}
+use mathlib.Core.Option.{some}
 use native.Mathlib.Omega.{arith}
 use lib.Dec.{leb}
 use lib.IntN.{ℤ, pos, natAbs}
@@ -13,34 +14,16 @@ use Rattle.definitions.specs.Layout.{Bytes, lastYear, parts}
 use Rattle.definitions.specs.Refusals.{yearLimit, partLimit}
 use Rattle.definitions.specs.Observations.{chainOf}
 use Rattle.definitions.specs.Matrix.{Part, Φ, Ψ, partOf, own, figuresOf}
-use Rattle.definitions.specs.Text.{ascii, space, lineFeed, decimalFrom, moreDigits, decimal, signedDecimal, aligned, nameOf, indexOf}
-use Rattle.definitions.specs.Page.{pageLine, pageOf}
+use Rattle.definitions.specs.Text.{ascii, space, lineFeed, decimalFrom, moreDigits, decimal, signedDecimal, aligned, readNumber, nameOf, indexOf}
+use Rattle.definitions.specs.Page.{pageLine, pageOf, columns, LineFits, PageFits}
 use Rattle.definitions.specs.Machine.{accepted}
 use Rattle.laws.specs.Accepted.{accepted-file}
 use Rattle.laws.specs.FileLimits.{file-limits}
 use Rattle.laws.specs.Judged.{tab-at}
-use Rattle.laws.specs.Decimal.{readNumber, aligned-read, aligned-length, decimal-length, signed-length, From, from-append, aligned-from}
+use Rattle.laws.specs.Decimal.{aligned-read, aligned-length, decimal-length, signed-length, From, from-append, aligned-from}
 use Rattle.laws.specs.Lines.{lines-same, lines-length, line-at, Line, ended, line-behind, same-lines}
 
--- columns `from` to `to` of a line, counted from 1
-abbrev pub columns : ℕ → ℕ → Bytes → Bytes
-columns from to line = take (to + 1 - from) (drop (from - 1) line)
-
 -- ---- a line
-
--- The columns of a line: each number's has all of its digits, so that reading it gives the number.
-pub record LineFits (p : Part) (mean : ℤ) (own : ℕ) : Type 0 where
-  pub bytes : length (pageLine p mean own) ≡ 28
-  pub name : columns 1 3 (pageLine p mean own) ≡ nameOf p
-  pub index : columns 5 6 (pageLine p mean own) ≡ aligned 2 (decimal (indexOf p))
-  pub ticks : columns 8 16 (pageLine p mean own) ≡ aligned 9 (signedDecimal mean)
-  pub weight : columns 18 27 (pageLine p mean own) ≡ aligned 10 (decimal own)
-  pub index-read : readNumber (columns 5 6 (pageLine p mean own)) ≡ pos (indexOf p)
-  pub ticks-read : readNumber (columns 8 16 (pageLine p mean own)) ≡ mean
-  pub weight-read : readNumber (columns 18 27 (pageLine p mean own)) ≡ pos own
-  pub spaces : (columns 4 4 (pageLine p mean own) ≡ space ∷ []) × (columns 7 7 (pageLine p mean own) ≡ space ∷ [])
-      × (columns 17 17 (pageLine p mean own) ≡ space ∷ [])
-  pub end : columns 28 28 (pageLine p mean own) ≡ lineFeed ∷ []
 
 -- past so many bytes, and so many more
 past : (xs ys : Bytes) (m n : ℕ) → length xs ≡ m → drop (m + n) (xs ++ ys) ≡ drop n ys
@@ -113,14 +96,14 @@ module _ (name A B C : Bytes) (three : length name ≡ 3) (two : length A ≡ 2)
 -- what a line is asked for: its numbers are small enough for their columns
 pub record InColumns (p : Part) (mean : ℤ) (own : ℕ) : Type 0 where
   pub index-to : indexOf p < 100
-  pub mean-to : natAbs mean ≤ partLimit
+  pub mean-to : natAbs mean < 10 ^ 8
   pub own-to : own < 10 ^ 10
 
 two-columns : (n : ℕ) → n < 100 → length (aligned 2 (decimal n)) ≡ 2
 two-columns n h = aligned-length 2 (decimal n) (decimal-length 1 moreDigits n (omega (arith, h)))
 
-nine-columns : (z : ℤ) → natAbs z ≤ partLimit → length (aligned 9 (signedDecimal z)) ≡ 9
-nine-columns z h = aligned-length 9 (signedDecimal z) (signed-length 7 z (omega (arith, h)))
+nine-columns : (z : ℤ) → natAbs z < 10 ^ 8 → length (aligned 9 (signedDecimal z)) ≡ 9
+nine-columns z h = aligned-length 9 (signedDecimal z) (signed-length 7 z h)
 
 ten-columns : (n : ℕ) → n < 10 ^ 10 → length (aligned 10 (decimal n)) ≡ 10
 ten-columns n h = aligned-length 10 (decimal n) (decimal-length 9 moreDigits n h)
@@ -165,12 +148,6 @@ pub record PageInColumns (J : ℕ) (μ : List ℤ) (D : List ℕ) : Type 0 where
   pub means : (k : ℕ) → k < parts J → natAbs (part μ k) ≤ partLimit
   pub weights : (k : ℕ) → k < parts J → getD D k 0 < 10 ^ 10
 
--- 28 bytes a line, each line in its place and with its columns
-pub record PageFits (J : ℕ) (μ : List ℤ) (D : List ℕ) : Type 0 where
-  pub bytes : length (pageOf J μ D) ≡ 28 * (2 * J + 1)
-  pub line : (k : ℕ) → k < parts J → take 28 (drop (28 * k) (pageOf J μ D)) ≡ pageLine (partOf J k) (part μ k) (getD D k 0)
-  pub fits : (k : ℕ) → k < parts J → LineFits (partOf J k) (part μ k) (getD D k 0)
-
 index-small : (J k : ℕ) → J ≤ yearLimit → k < parts J → indexOf (partOf J k) < 100
 unfolding partOf indexOf
 index-small J k years below = by-kind (leb k J)
@@ -186,7 +163,7 @@ module _ (J : ℕ) (μ : List ℤ) (D : List ℕ) where
   pub in-columns : PageInColumns J μ D → (k : ℕ) → k < parts J → InColumns (partOf J k) (part μ k) (getD D k 0)
   in-columns h k below = record {
     index-to = index-small J k (h .years) below;
-    mean-to = h .means k below;
+    mean-to = omega (arith, h .means k below);
     own-to = h .weights k below;
   }
 
@@ -240,12 +217,15 @@ page-line-ends p mean own =
 
 -- the mean is read back, however wide the own weight is
 ticks-back : (p : Part) (mean : ℤ) (own : ℕ) → indexOf p < 100 → natAbs mean ≤ partLimit
-    → readNumber (columns 8 16 (pageLine p mean own)) ≡ mean
+    → readNumber (columns 8 16 (pageLine p mean own)) ≡ some mean
 unfolding pageLine
 ticks-back p mean own index-to mean-to =
     ap readNumber (mean-at (nameOf p) (aligned 2 (decimal (indexOf p))) (aligned 9 (signedDecimal mean)) (aligned 10 (decimal own))
-    (three-columns p) (two-columns (indexOf p) index-to) (nine-columns mean mean-to))
+    (three-columns p) (two-columns (indexOf p) index-to) (nine-columns mean (omega (arith, mean-to))))
     ∙ aligned-read 9 mean (omega (arith, mean-to))
+
+same-some : {x y : ℤ} → some x ≡ some y → x ≡ y
+same-some e = cc
 
 -- From equal pages of means inside the limits, equal J and equal means follow, whatever the own weights.
 pub page-injective : (J K : ℕ) (μ ν : List ℤ) (D E : List ℕ) → J ≤ yearLimit → K ≤ yearLimit
@@ -259,7 +239,8 @@ page-injective J K μ ν D E J-to K-to μ-to ν-to μ-long ν-long e =
       ext-getD (pos 0) μ ν (omega (arith, μ-long, ν-long, years)) (λ k h.
           let below : k < parts J = omega (arith, μ-long) in
           let below-too : k < parts K = omega (arith, years, below) in
-          sym (ticks-back (partOf J k) (part μ k) (getD D k 0) (index-small J k J-to below) (μ-to k below))
+          same-some
+          (sym (ticks-back (partOf J k) (part μ k) (getD D k 0) (index-small J k J-to below) (μ-to k below))
           ∙ ap (λ line. readNumber (columns 8 16 line)) (same .1 k below)
-          ∙ ticks-back (partOf K k) (part ν k) (getD E k 0) (index-small K k K-to below-too) (ν-to k below-too)),
+          ∙ ticks-back (partOf K k) (part ν k) (getD E k 0) (index-small K k K-to below-too) (ν-to k below-too))),
     )

@@ -12,7 +12,8 @@ use native.Mathlib.Nat.{le-of-eq}
 use lib.IntN.{ℤ, pos, natAbs, _+ℤ_, _-ℤ_, _*ℤ_}
 use lib.Signed.{_≤ℤ_, _<ℤ_}
 use Rattle.integers.specs.Sum.{sum, total}
-use Rattle.definitions.specs.Layout.{Bytes, lastYear, closeness}
+use Rattle.definitions.specs.Layout.{Bytes, lastYear, closeness, recordLength}
+use Rattle.definitions.specs.Page.{pageLength}
 use Rattle.definitions.specs.Logarithm.{logarithm}
 use Rattle.definitions.specs.Loss.{Vector, loss, lossTimes}
 use Rattle.definitions.specs.Observations.{chainOf}
@@ -20,11 +21,12 @@ use Rattle.definitions.specs.Refusals.{rowCheck}
 use Rattle.definitions.specs.Matrix.{own, residueTimes, Figures, figuresOf, passes}
 use Rattle.definitions.specs.Machine.{accepted, State, empty, open-file, judge, sweep, read, page, row, row-told, close}
 use Rattle.definitions.specs.Machine.{closed, part-shown, row-is-shown, refusedOr, rowPart}
-use Rattle.definitions.specs.Machine.{openCall, judgeCall, sweepCall, readCall, pageCall, outcome, figuresMachine}
+use Rattle.definitions.specs.Machine.{recordIn, pageIn, openCall, judgeCall, sweepCall, readCall, pageCall, outcome, figuresMachine}
 use Rattle.definitions.specs.Guarantee.{Guarantee, Rounded}
 use Rattle.laws.specs.Demand3.{demand3}
 use Rattle.laws.specs.Judged.{passes-of-small}
 use Rattle.laws.specs.LogarithmBound.{logarithm-bound}
+use Rattle.laws.specs.MachineLaws.{write-alone}
 
 module _ (f : Bytes) where
   -- of each part
@@ -107,7 +109,9 @@ module _ (st : State Figures) where
     pub judges-alone : (r : Bytes) → figuresMachine st (judge r) .state ≡ st
     pub sweeps : (n : ℕ) → figuresMachine st (sweep n) ≡ sweepCall Figures figuresOf (λ F. F) st n
     pub reads : (b : Bytes) → figuresMachine st (read b) ≡ readCall Figures figuresOf (λ F. F) st b
+    pub reads-alone : (b : Bytes) → figuresMachine st (read b) .state ≡ st
     pub pages : (b : Bytes) → figuresMachine st (page b) ≡ pageCall Figures figuresOf (λ F. F) st b
+    pub pages-alone : (b : Bytes) → figuresMachine st (page b) .state ≡ st
     pub shows : (f : Bytes) (channel year : ℕ)
         → figuresMachine st (row f channel year) ≡ record { answer = part-shown (rowPart f channel year); state = st; buffer = [] }
     pub tells : (f : Bytes) (channel year : ℕ)
@@ -123,7 +127,9 @@ module _ (st : State Figures) where
     judges-alone = λ r. refl;
     sweeps = λ n. refl;
     reads = λ b. refl;
+    reads-alone = write-alone recordLength recordIn st;
     pages = λ b. refl;
+    pages-alone = write-alone pageLength pageIn st;
     shows = λ f channel year. refl;
     tells = λ f channel year. refl;
     closes = refl;

@@ -3,6 +3,7 @@ use Prim.Native.Nat.{ℕ, zero, suc, _+_, _*_, _-_, _≤_, _<_}
 use mathlib.Core.Path.{_≡_, refl, sym, ap, _∙_}
 use mathlib.Core.Bool.{Bool, true, false, cond}
 use mathlib.Core.List.{List, [], _∷_}
+use mathlib.Core.Option.{some}
 use native.Mathlib.Omega.{arith}
 use lib.Dec.{leb}
 use lib.IntN.{ℤ, pos, natAbs}
@@ -12,12 +13,11 @@ use Rattle.definitions.specs.Words.{part}
 use Rattle.definitions.specs.Layout.{Bytes, lastYear}
 use Rattle.definitions.specs.Observations.{chainOf}
 use Rattle.definitions.specs.Matrix.{Φ, Ψ, partOf, own, figuresOf}
-use Rattle.definitions.specs.Text.{ascii, nameOf, indexOf}
-use Rattle.definitions.specs.Page.{pageLine, pageOf}
+use Rattle.definitions.specs.Text.{ascii, readNumber, nameOf, indexOf}
+use Rattle.definitions.specs.Page.{pageLine, pageOf, PageFits}
 use Rattle.definitions.specs.Machine.{accepted}
 use Rattle.laws.specs.Judged.{tab-at}
-use Rattle.laws.specs.Decimal.{readNumber}
-use Rattle.laws.specs.Pages.{PageFits, file-page-fits, page-injective}
+use Rattle.laws.specs.Pages.{file-page-fits, page-injective}
 
 -- some bytes of a line that ends behind them
 inside-line : (at n width : ℕ) (l : Bytes) → at + n ≤ width → take n (drop at (take width l)) ≡ take n (drop at l)
@@ -55,23 +55,23 @@ module _ (f : Bytes) (yes-file : accepted f ≡ true) (μ : List ℤ)
         by-kind true = refl
         by-kind false = refl
 
-    pub index-on-page : readNumber (take 2 (drop (28 * k + 4) page)) ≡ pos (cond (leb k (lastYear f)) k (k - (lastYear f + 1)))
+    pub index-on-page : readNumber (take 2 (drop (28 * k + 4) page)) ≡ some (pos (cond (leb k (lastYear f)) k (k - (lastYear f + 1))))
     unfolding partOf indexOf
-    index-on-page = ap readNumber (piece 4 2 (omega arith)) ∙ fits .fits k below .index-read ∙ ap pos (by-kind (leb k (lastYear f)))
+    index-on-page = ap readNumber (piece 4 2 (omega arith)) ∙ fits .fits k below .index-read ∙ ap (λ i. some (pos i)) (by-kind (leb k (lastYear f)))
       where
         by-kind : (b : Bool) → indexOf (cond b (Φ k) (Ψ (k - (lastYear f + 1)))) ≡ cond b k (k - (lastYear f + 1))
         by-kind true = refl
         by-kind false = refl
 
-    pub ticks-on-page : readNumber (take 9 (drop (28 * k + 7) page)) ≡ part μ k
+    pub ticks-on-page : readNumber (take 9 (drop (28 * k + 7) page)) ≡ some (part μ k)
     ticks-on-page = ap readNumber (piece 7 9 (omega arith)) ∙ fits .fits k below .ticks-read
 
-    pub weight-on-page : readNumber (take 10 (drop (28 * k + 17) page)) ≡ pos (own (chainOf f) k)
+    pub weight-on-page : readNumber (take 10 (drop (28 * k + 17) page)) ≡ some (pos (own (chainOf f) k))
     unfolding figuresOf
     weight-on-page =
         ap readNumber (piece 17 10 (omega arith))
         ∙ fits .fits k below .weight-read
-        ∙ ap pos (tab-at (2 * lastYear f + 1) (own (chainOf f)) k 0 below)
+        ∙ ap (λ weight. some (pos weight)) (tab-at (2 * lastYear f + 1) (own (chainOf f)) k 0 below)
 
     pub spaces-on-page : (take 1 (drop (28 * k + 3) page) ≡ 32 ∷ []) × (take 1 (drop (28 * k + 6) page) ≡ 32 ∷ [])
         × (take 1 (drop (28 * k + 16) page) ≡ 32 ∷ []) × (take 1 (drop (28 * k + 27) page) ≡ 10 ∷ [])

@@ -24,7 +24,7 @@ use Rattle.session.specs.StateLaws.{stateOf-held, stateOf-empty}
 use Rattle.session.specs.Calls.{ofWrite, Text, writesTo, Writes}
 use Rattle.session.specs.Worth.{worth}
 
-refused-written : {number place : ℕ} → refused number place ≡ written → ⊥
+pub refused-written : {number place : ℕ} → refused number place ≡ written → ⊥
 refused-written e = let z : _≡_ {A = ℕ} 0 1 = cc in omega arith
 
 -- written only when the mean that is held passes

@@ -2,14 +2,13 @@
 use Prim.Native.Nat.{ℕ, _≤_, _<_}
 use mathlib.Core.Path.{_≡_, refl, sym, ap, subst, _∙_}
 use mathlib.Core.List.{List, _++_}
-use native.Mathlib.Omega.{arith}
 use borrow.Author.Tests.{le-ltb}
 use lib.IntN.{ℤ}
 use lib.ListN.{length, drop}
 use Rattle.definitions.specs.Layout.{Bytes, lastYear}
 use Rattle.definitions.specs.Matrix.{figuresOf}
 use Rattle.definitions.specs.Programs.{Show, programText, refusalLine, spentLine}
-use Rattle.definitions.specs.Machine.{opened, refused, written, writeCall}
+use Rattle.definitions.specs.Machine.{opened, refused, writeCall}
 use Rattle.laws.specs.Printed.{MeanSettled, Ends, opening, sweeping, swept-ends}
 use Rattle.session.specs.declared.Session.{Session}
 use Rattle.session.specs.declared.answers.SweepAnswer.{SweepAnswer}
@@ -19,6 +18,7 @@ use Rattle.session.specs.declared.answers.WriteAnswer.{WriteAnswer}
 use Rattle.session.specs.declared.answers.WriteAnswer.the-variants.{Refused as WriteRefused}
 use Rattle.session.specs.State.{stateOf}
 use Rattle.session.specs.Calls.{ofSweep, ofWrite, Text, Writes}
+use Rattle.session.specs.WriteLaws.{refused-written}
 
 -- by its answer: what is printed, whatever would be shown of a mean; or that the session holds the mean that is shown
 pub record Settles (given : Bytes) (r : Sweeping) : Type 0 where
@@ -45,9 +45,6 @@ pub record WritesWhole (size : ℕ → ℕ) (text : Text) (given : Bytes) (μ : 
     : Type 0 where
   pub taken : (number place : ℕ) → r ≡ WriteRefused number place → ⊥
   pub buffer : after ≡ text (figuresOf given) μ ++ drop (size (lastYear given)) before
-
-refused-written : {number place : ℕ} → refused number place ≡ written → ⊥
-refused-written e = let z : _≡_ {A = ℕ} 0 1 = cc in omega arith
 
 -- it passes, so that only the room counts
 pub writes-whole : {size : ℕ → ℕ} {text : Text} {given : Bytes} {s : Session} {total : ℕ} {before after : Bytes} {r : WriteAnswer}

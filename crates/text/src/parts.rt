@@ -1,8 +1,9 @@
 // The parts of a mean by name and index: phi 0 to J, then psi 0 to J − 1.
+ghost use Prim.Native.Nat.{_≤_};
 ghost use mathlib.Core.Path.{_≡_};
+ghost use Rattle.definitions.specs.Refusals.{yearLimit};
 ghost use Rattle.definitions.specs.Matrix.{partOf};
 ghost use Rattle.definitions.specs.Text.{nameOf, indexOf};
-ghost use Rattle.text.specs.Parts.{OfYears};
 
 pub fn name_of(last: usize, k: usize) -> [u8; 3]
     ensures { λ r. ⌜ r ≡ nameOf (partOf last k) ⌝ }
@@ -14,7 +15,7 @@ pub fn name_of(last: usize, k: usize) -> [u8; 3]
 }
 
 pub fn index_of(last: usize, k: usize) -> usize
-    requires { ⌜ OfYears last ⌝ }
+    requires { ⌜ last ≤ yearLimit ⌝ }
     ensures { λ r. ⌜ r ≡ indexOf (partOf last k) ⌝ }
 {
     if k <= last {

@@ -1,6 +1,6 @@
 -- A line: the name, the numbers with a space before each, and the end of the line, one behind the other.
-use Prim.Native.Nat.{ℕ, _≤_}
-use mathlib.Core.Path.{_≡_, refl, sym, subst, _∙_}
+use Prim.Native.Nat.{ℕ}
+use mathlib.Core.Path.{_≡_, refl, _∙_, ap}
 use mathlib.Core.List.{List, [], _∷_, _++_}
 use native.Mathlib.Omega.{arith}
 use borrow.Author.Needs.{needs}
@@ -31,7 +31,7 @@ put-in-requires c κs =
     let fits = index-fits (start .pre .fits) in
     record {
       on = c .before .before .before .put .ensures .counted .0;
-      fits = subst (λ n. length (decimal n) ≤ 3) (sym (c .before .before .before .before .before .before .index-of .ensures)) (omega (arith, fits));
+      fits = omega (arith, ap (λ n. length (decimal n)) (c .before .before .before .before .before .before .index-of .ensures), fits);
       few = omega arith;
     }
 
@@ -41,7 +41,7 @@ put-signed-in-requires c κs =
     let fits = mean-fits (start .pre .fits) in
     record {
       on = c .before .before .before .put-in .ensures .counted .0;
-      fits = subst (λ z. length (signedDecimal z) ≤ 10) (sym (toZ-ofZ (start .fits .mean))) (omega (arith, fits));
+      fits = omega (arith, ap (λ z. length (signedDecimal z)) (toZ-ofZ (start .fits .mean)), fits);
       few = omega arith;
     }
 

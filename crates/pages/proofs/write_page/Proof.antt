@@ -56,7 +56,7 @@ put-line-requires : tie.Need-put-line-requires Inv-loop μ-loop
 put-line-requires c κs =
     let l = c .before .before .before .before .loop in
     let start = c .before .before .before .before .before .before in
-    let below : l .k < parts (start .args .last) = c .before .before .before .loop-test .taken in
+    let below : l .k < parts (start .args .last) = omega (arith, c .before .before .before .loop-test .taken) in
     let ticks = stored-ticks _ _ _ (start .pre .fits) (l .k) below in
     record {
       on = omega (arith, l .inv .0, l .inv .2 .counted .0);
@@ -77,7 +77,7 @@ loop-again c =
     let start = c .before .before .before .before .before .before .before .before .before in
     let l = c .before .before .before .before .before .before .before .loop in
     let line = c .before .before .put-line in
-    let below : l .k < parts (start .args .last) = c .before .before .before .before .before .before .loop-test .taken in
+    let below : l .k < parts (start .args .last) = omega (arith, c .before .before .before .before .before .before .loop-test .taken) in
     let ticks = stored-ticks _ _ _ (start .pre .fits) (l .k) below in
     let same = ap (λ z. pageLine (partOf (start .args .last) (l .k)) z (getD (now (start .args .own)) (l .k) 0)) ticks in (
       line .kept .0 ∙ l .inv .0,

@@ -12,7 +12,7 @@ put-refusal-requires : tie.Need-put-refusal-requires
 put-refusal-requires c κs = search needs
 
 returns : tie.Need-returns
-returns c = let a = c .before .before .before .args in prints (c .before .put-refusal .ensures) (refusal-most (a .number) (a .place))
+returns c = prints (c .before .put-refusal .ensures) (refusal-most _ _)
 
 pub refused-spec : {M : Type 1} → statement M
 refused-spec = tie.close (tie.spec slice-aggregate-put-refusal put-refusal-requires returns)

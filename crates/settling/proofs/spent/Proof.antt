@@ -18,7 +18,7 @@ put-count-requires c κs = search needs
 
 returns : tie.Need-returns
 unfolding ascii tabFrom
-returns c = prints (c .before .put-count .ensures) (spent-most (c .before .before .before .before .args .total))
+returns c = prints (c .before .put-count .ensures) (spent-most _)
 
 pub spent-spec : {M : Type 1} → statement M
 spent-spec = tie.close (tie.spec slice-aggregate-put-count slice-aggregate-put-count-2 put-count-requires returns)
