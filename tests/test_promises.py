@@ -34,7 +34,8 @@ STARRED = {
 
 # Those of document 02's page and of its call, and the listing beside them.
 OF_THE_PAGE = {
-    "F-page", "widest-line", "narrowest-line", "F-page-closed", "F-page-failing", "F-page-short", "F-page-written", "F-page-behind", "F-board-page", "F-listing",
+    "F-page", "widest-line", "narrowest-line", "F-page-closed", "F-page-failing", "F-page-short", "F-page-written", "F-page-behind",
+    "F-board-page", "F-listing",
 }
 
 

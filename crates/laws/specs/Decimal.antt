@@ -128,7 +128,8 @@ decimal-are = by-digits (λ more n t. n < 10 ^ suc more → areDigits t ≡ true
     next : (more n : ℕ) → 10 ≤ n → (n / 10 < 10 ^ suc more → areDigits (decimalFrom more (n / 10)) ≡ true)
         → n < 10 ^ suc (suc more) → areDigits (decimalFrom more (n / 10) ++ digit (n % 10) ∷ []) ≡ true
     next more n ten shorter h =
-        digits-snoc (decimalFrom more (n / 10)) (digit (n % 10)) (shorter (omega (arith, h, pow-suc 10 (suc more)))) (is-digit (n % 10) (omega arith))
+        digits-snoc (decimalFrom more (n / 10)) (digit (n % 10)) (shorter (omega (arith, h, pow-suc 10 (suc more))))
+        (is-digit (n % 10) (omega arith))
 
 digits-read : (t : Bytes) → Digits t → areDigits t ≡ true → readNumber t ≡ some (pos (spelt 0 t))
 unfolding readNumber readDigits From
@@ -141,7 +142,8 @@ digits-read (x ∷ xs) d e =
 signed-read : (z : ℤ) → natAbs z < 10 ^ suc moreDigits → readNumber (signedDecimal z) ≡ some z
 unfolding signedDecimal readNumber readDigits
 signed-read (pos n) h =
-    digits-read (decimal n) (decimal-digits moreDigits n) (decimal-are moreDigits n h) ∙ ap (λ m. some (pos m)) (decimal-spelt moreDigits n h)
+    digits-read (decimal n) (decimal-digits moreDigits n) (decimal-are moreDigits n h)
+    ∙ ap (λ m. some (pos m)) (decimal-spelt moreDigits n h)
 signed-read (negsuc n) h = rw (decimal-are moreDigits (suc n) h, decimal-spelt moreDigits (suc n) h) refl
 
 spaces-read : (n : ℕ) (t : Bytes) → readNumber (replicate n space ++ t) ≡ readNumber t

@@ -65,7 +65,8 @@ write-alone size text empty b = refl
 write-alone size text (holds F μ total) b =
     same (not (passes F (part μ))) _ _ refl (same (ltb (length b) (size (F .last))) _ _ refl refl)
   where
-    same : (t : Bool) (x y : Outcome Figures) → x .state ≡ holds F μ total → y .state ≡ holds F μ total → cond t x y .state ≡ holds F μ total
+    same : (t : Bool) (x y : Outcome Figures) → x .state ≡ holds F μ total → y .state ≡ holds F μ total
+        → cond t x y .state ≡ holds F μ total
     same true x y first second = first
     same false x y first second = second
 

@@ -57,7 +57,9 @@ module _ (f : Bytes) (yes-file : accepted f ≡ true) (μ : List ℤ)
 
     pub index-on-page : readNumber (take 2 (drop (28 * k + 4) page)) ≡ some (pos (cond (leb k (lastYear f)) k (k - (lastYear f + 1))))
     unfolding partOf indexOf
-    index-on-page = ap readNumber (piece 4 2 (omega arith)) ∙ fits .fits k below .index-read ∙ ap (λ i. some (pos i)) (by-kind (leb k (lastYear f)))
+    index-on-page =
+        ap readNumber (piece 4 2 (omega arith)) ∙ fits .fits k below .index-read
+        ∙ ap (λ i. some (pos i)) (by-kind (leb k (lastYear f)))
       where
         by-kind : (b : Bool) → indexOf (cond b (Φ k) (Ψ (k - (lastYear f + 1)))) ≡ cond b k (k - (lastYear f + 1))
         by-kind true = refl
