@@ -1,10 +1,10 @@
 """What must be believed to read the contracts at the border is what docs/CLAIMS.md lists, and no more.
 
-The border is every function that can be called from outside: the calls of the specification's table, the public functions of the session,
-what C calls, and `list` and `board`, which make what the programs print. From the names in their contracts the imports are followed, module
-by module. Every module of this repository that is reached, and every source that such a contract stands in, must be in that list, whose
-folders stand for all that is in them, and every entry of the list must be reached. Types that Rattle declares are in its sources, and
-the rest is the kit's.
+The border is every function that can be called from outside: the calls of the specification's table, the public functions of the session
+and of the crates whose calls it passes on, what C calls, and `list` and `board`, which make what the programs print. From the names in
+their contracts the imports are followed, module by module. Every module of this repository that is reached, and every source that such
+a contract stands in, must be in that list, whose folders stand for all that is in them, and every entry of the list must be reached.
+Types that Rattle declares are in its sources, and the rest is the kit's.
 
     python3 tests/believed.py --print
 
@@ -20,7 +20,7 @@ from declared import crates, files, files_of, folders, text_of
 from documents import blocks, sentences
 from resolving import Named, resolved
 
-SESSION = "crates/session/src"
+SESSION = "session"
 PROGRAMS = [("crates/listing/src/main.rt", "list"), ("crates/board_page/src/main.rt", "board")]
 DOCUMENT = "docs/CLAIMS.md"
 LIST = "## What must be believed besides"
@@ -33,12 +33,19 @@ Function = tuple[str, str]  # the file and the name
 # The contracts at the border.
 
 
+def public_files(crate: str) -> list[str]:
+    """The files of a crate's public modules."""
+    folder = f"crates/{crate}/src"
+    return [f"{folder}/{module}.rt" for module in ("lib", *re.findall(r"^pub mod (\w+);", text_of(f"{folder}/lib.rt"), re.MULTILINE))]
+
+
 def border() -> list[Function]:
     table = re.findall(r"^\| `(\w+)::(\w+)::(\w+)` \|", text_of("docs/SPECIFICATION.md"), re.MULTILINE)
     found = [(f"crates/{crate}/src/{module}.rt", name) for crate, module, name in table]
-    public = re.findall(r"^pub mod (\w+);", text_of(f"{SESSION}/lib.rt"), re.MULTILINE)
-    for path in (f"{SESSION}/{module}.rt" for module in ("lib", *public)):
-        found += [(path, name) for name in re.findall(r"^pub fn (\w+)", text_of(path), re.MULTILINE)]
+    passed_on = (crate for path in public_files(SESSION) for crate in re.findall(r"^pub use (\w+)::", text_of(path), re.MULTILINE))
+    for crate in dict.fromkeys([SESSION, *passed_on]):
+        for path in public_files(crate):
+            found += [(path, name) for name in re.findall(r"^pub fn (\w+)", text_of(path), re.MULTILINE)]
     for path in files_of("desk", "src/", ".rt"):
         found += [(path, name) for name in re.findall(r'^pub extern "C" fn (\w+)', text_of(path), re.MULTILINE)]
     return list(dict.fromkeys([*found, *PROGRAMS]))

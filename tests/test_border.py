@@ -17,7 +17,7 @@ sys.path.insert(1, str(ROOT / "python"))
 from reserving_desk import library
 
 HEADER = (ROOT / "include" / "desk.h").read_text()
-SOURCES = "\n".join(path.read_text() for path in sorted((ROOT / "crates" / "desk" / "src").glob("*.rt")))
+SOURCES = "\n".join(path.read_text() for crate in ("telling", "desk") for path in sorted((ROOT / "crates" / crate / "src").glob("*.rt")))
 
 Call = tuple[list[str], list[str]]  # parameters, and the numbers of the answer
 

@@ -1,6 +1,6 @@
 """Tries one must-fail edit of a crate alone, in seconds, and shows the first error that refuses it.
 
-    python3 tests/try_edit.py crates/session/must-fail/spent_before_4096.edit
+    python3 tests/try_edit.py crates/sweeping/must-fail/spent_before_4096.edit
 
 The kit's own command tries every edit of a crate and of what it depends on. Here the edit is made in a copy, over what was proved
 before; the error must name the fact that the edit is about.

@@ -4,7 +4,8 @@ ghost use mathlib.Core.Path.{_≡_};
 ghost use lib.ListN.{length, take};
 ghost use Rattle.definitions.specs.Programs.{boardPage};
 ghost use Rattle.laws.specs.Printed.{MeanSettled};
-ghost use Rattle.session.specs.State.{stateOf};
+ghost use Rattle.holding.specs.State.{stateOf};
+ghost use Rattle.session.specs.Value.{heldBy};
 ghost use Rattle.settling.specs.Printed.{Prints};
 use layout::places::last_year;
 use libc::STDIN_FILENO;
@@ -22,7 +23,7 @@ use settling::spent;
 
 // The page of the mean that settled, which is never refused: it passes, and no page has more than 868 bytes.
 fn page_mean(given: &[u8], s: Session) -> Printed
-    requires { ⌜ ((total : ℕ) × MeanSettled (now given) (stateOf s) total) ⌝ }
+    requires { ⌜ ((total : ℕ) × MeanSettled (now given) (stateOf (heldBy s)) total) ⌝ }
     ensures { λ r. ⌜ Prints (boardPage (now (given .entry))) r ⌝ }
 {
     let mut bytes = [0u8; 4096];

@@ -17,7 +17,7 @@ use Rattle.laws.specs.Accepted.{AcceptedFile, accepted-file}
 use Rattle.laws.specs.Diagonal.{diagonal-is}
 use Rattle.laws.specs.FileBounds.{file-owned}
 use Rattle.laws.specs.FileLimits.{file-limits, entry-fits, diagonal-fits, right-hand-fits}
-use Rattle.laws.specs.Judged.{tab-at}
+use Rattle.laws.specs.Tables.{tab-at}
 use Rattle.chain.specs.Fitting.{Fitting, diagonalLimit, entryLimit}
 
 module _ (f : Bytes) (h : AcceptedFile f) where

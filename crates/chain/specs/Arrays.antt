@@ -3,14 +3,13 @@ use Prim.Native.Nat.{ℕ, _+_, _*_, _≤_, min, max}
 use mathlib.Core.Path.{_≡_, ap}
 use mathlib.Core.List.{List, []}
 use native.Mathlib.Omega.{arith}
-use lib.IntN.{ℤ, _-ℤ_, _*ℤ_}
+use lib.IntN.{ℤ, _*ℤ_}
 use lib.ListN.{getD}
 use Rattle.integers.specs.Summation.{sum}
 use Rattle.definitions.specs.Words.{tabFrom, part}
 use Rattle.definitions.specs.Layout.{parts}
 use Rattle.definitions.specs.Matrix.{Figures}
 use Rattle.chain.specs.declared.arrays.Figures.{Figures as FlatFigures}
-use Rattle.chain.specs.declared.arrays.Working.{Working}
 
 -- a mean, or another vector of one number for each part
 abbrev pub meanOf : ℕ → List ℤ → List ℤ
@@ -54,11 +53,3 @@ system last A b = record { last = last; closeness = 0; own = []; matrix = rowsOf
 
 abbrev pub systemOf : FlatFigures → Figures
 systemOf F = system (F .last) (F .matrix) (meanOf (F .last) (F .«right_hand»))
-
--- The right-hand side of which a working mean's residues speak: A·mean − residues.
-abbrev pub heldRightHand : ℕ → List ℤ → Working → List ℤ
-heldRightHand last A w = tabFrom 0 (parts last) (λ k. rowProduct A k (parts last) (w .mean) -ℤ part (w .residues) k)
-
--- A step has the matrix, a mean and its residues, and so the system that they belong to.
-unfoldable pub held : ℕ → List ℤ → Working → Figures
-held last A w = system last A (heldRightHand last A w)

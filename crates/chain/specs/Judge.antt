@@ -13,8 +13,8 @@ use Rattle.definitions.specs.Layout.{parts}
 use Rattle.definitions.specs.Loss.{Vector}
 use Rattle.definitions.specs.Refusals.{yearLimit, closenessLimit}
 use Rattle.definitions.specs.Matrix as D
-use Rattle.definitions.specs.Matrix.{passed, fails, isPassed, judgeFrom, judgement, residue}
-use Rattle.laws.specs.Judged.{tab-at}
+use Rattle.definitions.specs.Matrix.{passed, fails, isPassed, passes, judgeFrom, judgement, residue}
+use Rattle.laws.specs.Tables.{tab-at}
 use Rattle.chain.specs.declared.arrays.Figures.{Figures}
 use Rattle.chain.specs.declared.judge.Judgement.{Judgement}
 use Rattle.chain.specs.declared.judge.Judgement.the-variants.{Passed, Fails}
@@ -117,3 +117,7 @@ residues-are F μ v h k below = h .at k below ∙ sym (residue-same F (part (mea
 pub judged : (F : Figures) (μ v : List ℤ) → ResiduesIn F μ v → {r : Judgement} → TestedIn F v r
     → judgementOf r ≡ judgement (figuresOf F) (part (meanOf (F .last) μ))
 judged F μ v found tested = tested .is ∙ test-is-judgement F (part (meanOf (F .last) μ)) v (residues-are F μ v found)
+
+pub passing : (F : Figures) (μ v : List ℤ) → ResiduesIn F μ v → {r : Bool} → PassesIn F v r
+    → r ≡ passes (figuresOf F) (part (meanOf (F .last) μ))
+passing F μ v found tested = tested .is ∙ ap isPassed (test-is-judgement F (part (meanOf (F .last) μ)) v (residues-are F μ v found))

@@ -18,7 +18,7 @@ use Rattle.definitions.specs.Layout.{parts}
 use Rattle.definitions.specs.Refusals.{partLimit}
 use Rattle.definitions.specs.Loss.{Vector}
 use Rattle.definitions.specs.Matrix.{residue, entry}
-use Rattle.laws.specs.Judged.{tab-at}
+use Rattle.laws.specs.Tables.{tab-at}
 use Rattle.chain.specs.declared.arrays.Figures.{Figures as FlatFigures}
 use Rattle.chain.specs.Arrays.{meanOf, cell, cell-mirrored, system, figuresOf, systemOf, rowProduct}
 use Rattle.chain.specs.Fitting.{Fitting, Inside, entryLimit, diagonalLimit, rowLimit, rightHandLimit, residueLimit}

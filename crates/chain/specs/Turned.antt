@@ -1,12 +1,12 @@
 -- An array of 31 numbers that is rewritten from the front: below k it has its new numbers already, from k on still its old ones.
-use Prim.Native.Nat.{ℕ, zero, suc, _+_, _≤_, _<_}
-use mathlib.Core.Path.{_≡_, refl, ap, sym, subst, _∙_}
+use Prim.Native.Nat.{ℕ, _+_, _≤_, _<_}
+use mathlib.Core.Path.{_≡_, ap, sym, subst, _∙_}
 use mathlib.Core.Logic.{_⊎_, inl, inr}
 use mathlib.Core.List.{List}
 use native.Mathlib.Nat.{eq-or-lt-of-le}
 use native.Mathlib.Omega.{arith}
 use lib.IntN.{ℤ, pos}
-use lib.ListN.{length, set, replicate, length-set}
+use lib.ListN.{length, set, length-set}
 use lib.Seq.{getD-set-same, getD-set-other}
 use Rattle.definitions.specs.Words.{part}
 
@@ -14,12 +14,6 @@ pub record Turned (k : ℕ) (fresh old : ℕ → ℤ) (v : List ℤ) : Type 0 wh
   pub long : length v ≡ 31
   pub front : (i : ℕ) → i < k → part v i ≡ fresh i
   pub rest : (i : ℕ) → k ≤ i → part v i ≡ old i
-
--- an array of zeros
-pub zeros-at : (n i : ℕ) → part (replicate n (pos 0)) i ≡ pos 0
-zeros-at zero i = refl
-zeros-at (suc n) zero = refl
-zeros-at (suc n) (suc i) = zeros-at n i
 
 module _ {fresh old : ℕ → ℤ} {v : List ℤ} where
   pub turned-none : length v ≡ 31 → ((i : ℕ) → part v i ≡ old i) → Turned 0 fresh old v

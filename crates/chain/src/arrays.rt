@@ -1,4 +1,4 @@
-// The figures of a file that the calls use, in arrays of the largest size, and a mean with its residues.
+// The figures of a file that the calls use, in arrays of the largest size.
 
 // Row k, column l of the matrix A is at 31·k + l; every array is 0 outside the parts 0..2J. The matrix is symmetric and filled whole;
 // what is computed from it reads the entries on and below the diagonal.
@@ -8,10 +8,4 @@ pub struct Figures {
     pub own: [u64; 31],
     pub matrix: [i64; 961],
     pub right_hand: [i64; 31],
-}
-
-// A mean, and the residues that it has.
-pub struct Working {
-    pub mean: [i64; 31],
-    pub residues: [i64; 31],
 }

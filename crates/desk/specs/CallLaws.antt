@@ -14,28 +14,35 @@ use Rattle.laws.specs.Rows.{row-inside, row-some, row-shown}
 use Rattle.chain.specs.Arrays.{figuresAt}
 use Rattle.readings.specs.declared.rows.RowPlace.{RowPlace}
 use Rattle.readings.specs.Rows.{Places}
-use Rattle.session.specs.declared.Session.{Session}
-use Rattle.session.specs.declared.answers.OpenAnswer.{OpenAnswer}
-use Rattle.session.specs.declared.answers.OpenAnswer.the-variants as O
-use Rattle.session.specs.declared.answers.JudgeAnswer.{JudgeAnswer}
-use Rattle.session.specs.declared.answers.JudgeAnswer.the-variants as J
-use Rattle.session.specs.declared.answers.SweepAnswer.{SweepAnswer}
-use Rattle.session.specs.declared.answers.SweepAnswer.the-variants as S
-use Rattle.session.specs.declared.answers.WriteAnswer.{WriteAnswer}
-use Rattle.session.specs.declared.answers.WriteAnswer.the-variants as W
-use Rattle.session.specs.declared.answers.FiguresAnswer.{FiguresAnswer}
-use Rattle.session.specs.declared.answers.FiguresAnswer.the-variants as F
-use Rattle.session.specs.declared.answers.Showing.{Showing}
-use Rattle.session.specs.State.{stateOf}
-use Rattle.session.specs.StateLaws.{stateOf-empty}
-use Rattle.session.specs.Calls as C
-use Rattle.session.specs.Calls.{ofOpen, ofJudge, ofSweep, ofWrite, showsTo, FiguresOf}
-use Rattle.desk.specs.declared.answers.Refusal.{Refusal}
-use Rattle.desk.specs.declared.answers.Judged.{Judged}
-use Rattle.desk.specs.declared.answers.Swept.{Swept}
-use Rattle.desk.specs.declared.answers.RowShown.{RowShown}
-use Rattle.desk.specs.declared.answers.System.{System}
-use Rattle.desk.specs.Told.{none, told, refusalTold, judgeTold, sweepTold, rowTold, figuresTold, systemTold}
+use Rattle.holding.specs.State.{Held, stateOf}
+use Rattle.opening.specs.declared.OpenAnswer.{OpenAnswer}
+use Rattle.opening.specs.declared.OpenAnswer.the-variants as O
+use Rattle.judging.specs.declared.JudgeAnswer.{JudgeAnswer}
+use Rattle.judging.specs.declared.JudgeAnswer.the-variants as J
+use Rattle.sweeping.specs.declared.SweepAnswer.{SweepAnswer}
+use Rattle.sweeping.specs.declared.SweepAnswer.the-variants as S
+use Rattle.writing.specs.declared.WriteAnswer.{WriteAnswer}
+use Rattle.writing.specs.declared.WriteAnswer.the-variants as W
+use Rattle.showing.specs.declared.FiguresAnswer.{FiguresAnswer}
+use Rattle.showing.specs.declared.FiguresAnswer.the-variants as F
+use Rattle.showing.specs.declared.Showing.{Showing}
+use Rattle.holding.specs.StateLaws.{stateOf-empty}
+use Rattle.opening.specs.Opens as OpenCall
+use Rattle.judging.specs.Judges as JudgeCall
+use Rattle.sweeping.specs.Sweeps as SweepCall
+use Rattle.writing.specs.Writes as WriteCall
+use Rattle.showing.specs.Shows as FiguresCall
+use Rattle.opening.specs.Opens.{ofOpen}
+use Rattle.judging.specs.Judges.{ofJudge}
+use Rattle.sweeping.specs.Sweeps.{ofSweep}
+use Rattle.writing.specs.Writes.{ofWrite, Text, writesTo}
+use Rattle.showing.specs.Shows.{showsTo, FiguresOf}
+use Rattle.telling.specs.declared.Refusal.{Refusal}
+use Rattle.telling.specs.declared.Judged.{Judged}
+use Rattle.telling.specs.declared.Swept.{Swept}
+use Rattle.telling.specs.declared.RowShown.{RowShown}
+use Rattle.telling.specs.declared.System.{System}
+use Rattle.telling.specs.Told.{none, told, refusalTold, judgeTold, sweepTold, rowTold, figuresTold, systemTold}
 use Rattle.desk.specs.Calls.{Numbered, Opens, Judges, Sweeps, Writes, Shows, Closes, ShowsRow}
 
 never-0 : {a : Answer} → N.NumberedAnswer a → Numbered a
@@ -46,7 +53,7 @@ itself F = F
 
 -- ---- open
 
-pub opens-told : (s : Session) (file : Bytes) (a : OpenAnswer) (t : Session) → C.Opens s file (record { answer = a; session = t })
+pub opens-told : (s : Held) (file : Bytes) (a : OpenAnswer) (t : Held) → OpenCall.Opens s file a t
     → {r : Refusal} → r ≡ refusalTold (ofOpen a) → Opens s file r t
 opens-told s file a t h {r} e = record {
   told = e ∙ ap refusalTold (h .answer);
@@ -66,7 +73,7 @@ is-passed J.Passed e = refl
 is-passed (J.Fails k) e = absurd (omega arith)
 is-passed (J.Refused number place) e = absurd (omega arith)
 
-pub judges-told : (s : Session) (lent : Bytes) (a : JudgeAnswer) → C.Judges s lent a → {r : Judged} → r ≡ judgeTold (ofJudge a)
+pub judges-told : (s : Held) (lent : Bytes) (a : JudgeAnswer) → JudgeCall.Judges s lent a → {r : Judged} → r ≡ judgeTold (ofJudge a)
     → Judges s lent r
 judges-told s lent a h {r} e = record {
   told = e ∙ ap judgeTold (h .answer);
@@ -85,7 +92,7 @@ is-settled (S.Settled total) e = refl
 is-settled (S.Going total) e = absurd (omega arith)
 is-settled (S.Refused number place) e = absurd (omega arith)
 
-pub sweeps-told : (s : Session) (n : ℕ) (a : SweepAnswer) (t : Session) → C.Sweeps s n (record { answer = a; session = t })
+pub sweeps-told : (s : Held) (n : ℕ) (a : SweepAnswer) (t : Held) → SweepCall.Sweeps s n a t
     → {r : Swept} → r ≡ sweepTold (ofSweep a) → Sweeps s n r t
 sweeps-told s n a t h {r} e = record {
   told = e ∙ ap sweepTold (h .answer);
@@ -109,8 +116,8 @@ sweeps-told s n a t h {r} e = record {
 
 -- ---- read and page
 
-pub writes-told : (size : ℕ → ℕ) (text : C.Text) (s : Session) (before : Bytes) (a : WriteAnswer) (after : Bytes)
-    → C.Writes size text s before a after → {r : Refusal} → r ≡ refusalTold (ofWrite a) → Writes size text s before r after
+pub writes-told : (size : ℕ → ℕ) (text : Text) (s : Held) (before : Bytes) (a : WriteAnswer) (after : Bytes)
+    → WriteCall.Writes size text s before a after → {r : Refusal} → r ≡ refusalTold (ofWrite a) → Writes size text s before r after
 writes-told size text s before a after h {r} e = record {
   told = e ∙ ap refusalTold (h .answer);
   numbered = numbered;
@@ -118,10 +125,10 @@ writes-told size text s before a after h {r} e = record {
   worth = λ f μ total open-file none. h .worth f μ total open-file (is-written a (h .answer) (sym (ap (λ x. x .number) e) ∙ none));
 }
   where
-    numbered : Numbered (C.writesTo size text (stateOf s) before .answer)
+    numbered : Numbered (writesTo size text (stateOf s) before .answer)
     numbered = never-0 (N.write-numbered D.Figures D.figuresOf itself size text (stateOf s) before)
 
-    is-written : (a : WriteAnswer) → ofWrite a ≡ C.writesTo size text (stateOf s) before .answer → refusalTold (ofWrite a) .number ≡ 0
+    is-written : (a : WriteAnswer) → ofWrite a ≡ writesTo size text (stateOf s) before .answer → refusalTold (ofWrite a) .number ≡ 0
         → a ≡ W.Written
     is-written W.Written same none = refl
     is-written (W.Refused number place) same none =
@@ -137,7 +144,7 @@ unfolding showsTo
 shown-numbered empty place e = let none : _≡_ {A = ℕ} 21 0 = ap (λ x. figuresTold x .number) e in omega arith
 shown-numbered (holds F μ total) place e = shown-refused e
 
-pub shows-told : (s : Session) (a : Showing) → C.Shows s a → {r : System} → r ≡ systemTold a → Shows s r
+pub shows-told : (s : Held) (a : Showing) → FiguresCall.Shows s a → {r : System} → r ≡ systemTold a → Shows s r
 shows-told s a h {r} e = record {
   told = e ∙ ap systemTold (h .shown);
   numbered = shown-numbered (stateOf s);

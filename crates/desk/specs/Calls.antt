@@ -15,28 +15,31 @@ use Rattle.definitions.specs.Page.{pageLength}
 use Rattle.definitions.specs.Machine.{Answer, refused, empty, rowPart, recordIn, pageIn}
 use Rattle.definitions.specs.Guarantee.{Guarantee, Rounded}
 use Rattle.chain.specs.Arrays.{figuresAt}
-use Rattle.session.specs.declared.Session.{Session}
-use Rattle.session.specs.declared.answers.FiguresAnswer.the-variants.{Refused}
-use Rattle.session.specs.State.{stateOf, sessionHeld}
-use Rattle.session.specs.Calls.{Text, opensTo, judgesTo, sweepsTo, writesTo, showsTo, HoldsFile, FiguresOf}
-use Rattle.desk.specs.declared.answers.Refusal.{Refusal}
-use Rattle.desk.specs.declared.answers.Judged.{Judged}
-use Rattle.desk.specs.declared.answers.Swept.{Swept}
-use Rattle.desk.specs.declared.answers.RowShown.{RowShown}
-use Rattle.desk.specs.declared.answers.System.{System}
-use Rattle.desk.specs.Told.{refusalTold, judgeTold, sweepTold, rowTold, systemTold}
+use Rattle.holding.specs.State.{Held, stateOf, heldIn, HoldsFile}
+use Rattle.showing.specs.declared.FiguresAnswer.the-variants.{Refused}
+use Rattle.writing.specs.Writes.{Text, writesTo}
+use Rattle.opening.specs.Opens.{opensTo}
+use Rattle.judging.specs.Judges.{judgesTo}
+use Rattle.sweeping.specs.Sweeps.{sweepsTo}
+use Rattle.showing.specs.Shows.{showsTo, FiguresOf}
+use Rattle.telling.specs.declared.Refusal.{Refusal}
+use Rattle.telling.specs.declared.Judged.{Judged}
+use Rattle.telling.specs.declared.Swept.{Swept}
+use Rattle.telling.specs.declared.RowShown.{RowShown}
+use Rattle.telling.specs.declared.System.{System}
+use Rattle.telling.specs.Told.{refusalTold, judgeTold, sweepTold, rowTold, systemTold}
 
 -- no refusal has the number 0, so that 0 says that there is none
 abbrev pub Numbered : Answer → Type 0
 Numbered a = (place : ℕ) → a ≢ refused 0 place
 
-pub record Opens (s : Session) (file : Bytes) (r : Refusal) (t : Session) : Type 0 where
+pub record Opens (s : Held) (file : Bytes) (r : Refusal) (t : Held) : Type 0 where
   pub told : r ≡ refusalTold (opensTo (stateOf s) file .answer)
   pub numbered : Numbered (opensTo (stateOf s) file .answer)
   pub state : stateOf t ≡ opensTo (stateOf s) file .state
   pub same : r .number ≢ 0 → t ≡ s
 
-pub record Judges (s : Session) (meanRecord : Bytes) (r : Judged) : Type 0 where
+pub record Judges (s : Held) (meanRecord : Bytes) (r : Judged) : Type 0 where
   pub told : r ≡ judgeTold (judgesTo (stateOf s) meanRecord)
   pub numbered : Numbered (judgesTo (stateOf s) meanRecord)
   pub worth : (f : Bytes) (μ : List ℤ) (total : ℕ) → HoldsFile s f μ total
@@ -44,7 +47,7 @@ pub record Judges (s : Session) (meanRecord : Bytes) (r : Judged) : Type 0 where
   pub rounded : (f : Bytes) (μ : List ℤ) (total : ℕ) → HoldsFile s f μ total
       → recordCheck (lastYear f) meanRecord ≡ clear → Rounded f (part (meanOf (lastYear f) meanRecord)) → r .passed ≡ 1
 
-pub record Sweeps (s : Session) (n : ℕ) (r : Swept) (t : Session) : Type 0 where
+pub record Sweeps (s : Held) (n : ℕ) (r : Swept) (t : Held) : Type 0 where
   pub told : r ≡ sweepTold (sweepsTo (stateOf s) n .answer)
   pub numbered : Numbered (sweepsTo (stateOf s) n .answer)
   pub state : stateOf t ≡ sweepsTo (stateOf s) n .state
@@ -54,19 +57,19 @@ pub record Sweeps (s : Session) (n : ℕ) (r : Swept) (t : Session) : Type 0 whe
   pub rounded : (f : Bytes) (μ ν : List ℤ) (total after : ℕ) → HoldsFile s f μ total → HoldsFile t f ν after
       → within 1 sweepLimit n ≡ true → Rounded f (part ν) → r .settled ≡ 1
 
-pub record Writes (size : ℕ → ℕ) (text : Text) (s : Session) (before : Bytes) (r : Refusal) (after : Bytes) : Type 0 where
+pub record Writes (size : ℕ → ℕ) (text : Text) (s : Held) (before : Bytes) (r : Refusal) (after : Bytes) : Type 0 where
   pub told : r ≡ refusalTold (writesTo size text (stateOf s) before .answer)
   pub numbered : Numbered (writesTo size text (stateOf s) before .answer)
   pub buffer : after ≡ writesTo size text (stateOf s) before .buffer
   pub worth : (f : Bytes) (μ : List ℤ) (total : ℕ) → HoldsFile s f μ total → r .number ≡ 0 → Guarantee f (part μ)
 
-abbrev pub Reads : Session → Bytes → Refusal → Bytes → Type 0
+abbrev pub Reads : Held → Bytes → Refusal → Bytes → Type 0
 Reads = Writes recordLength recordIn
 
-abbrev pub Pages : Session → Bytes → Refusal → Bytes → Type 0
+abbrev pub Pages : Held → Bytes → Refusal → Bytes → Type 0
 Pages = Writes pageLength pageIn
 
-pub record Shows (s : Session) (r : System) : Type 0 where
+pub record Shows (s : Held) (r : System) : Type 0 where
   pub told : r ≡ systemTold (showsTo (stateOf s))
   pub numbered : (place : ℕ) → showsTo (stateOf s) .answer ≢ Refused 0 place
   pub of-file : (f : Bytes) (μ : List ℤ) (total : ℕ) → HoldsFile s f μ total
@@ -74,7 +77,7 @@ pub record Shows (s : Session) (r : System) : Type 0 where
 
 -- nothing is open, whatever the other arrays hold
 abbrev pub Closes : List ℕ → Type 0
-Closes held = (own : List ℕ) (A b μ : List ℤ) → stateOf (sessionHeld held own A b μ) ≡ empty
+Closes held = (own : List ℕ) (A b μ : List ℤ) → stateOf (heldIn held own A b μ) ≡ empty
 
 pub record ShowsRow (file : Bytes) (channel year : ℕ) (r : RowShown) : Type 0 where
   pub told : r ≡ rowTold (lastYear file) channel year (rowCheck file channel year)

@@ -1,4 +1,3 @@
-pub mod Told
 pub mod Calls
 pub mod CallLaws
 pub mod Pinned

@@ -1,80 +1,43 @@
--- What C is told, case by case and in plain numbers, as include/desk.h has it;
--- and what C's callers can count on, each drawn from the contract of a call alone.
+-- What C's callers can count on, in plain numbers, each drawn from the contract of a call alone.
 use Prim.Native.Nat.{ℕ, _+_, _*_, _≤_, _<_}
 use mathlib.Core.Path.{_≡_, refl, ap, _∙_}
 use mathlib.Core.Logic.{_≢_}
 use mathlib.Core.Bool.{true}
-use mathlib.Core.List.{List, [], _∷_, _++_}
+use mathlib.Core.List.{List, _++_}
 use native.Mathlib.Omega.{arith}
 use borrow.Author.Tests.{lt-ltb, le-ltb}
-use lib.IntN.{ℤ, pos, negsuc}
+use lib.IntN.{ℤ, pos}
 use lib.ListN.{length, getD, take, drop, replicate}
 use Rattle.definitions.specs.Words.{within, part}
-use Rattle.definitions.specs.Layout.{Bytes, lastYear, closeness, rowStart, meanOf, recordOf}
+use Rattle.definitions.specs.Layout.{Bytes, lastYear, closeness, meanOf, recordOf}
 use Rattle.definitions.specs.Refusals.{clear, refuses, rowCheck, recordCheck}
 use Rattle.definitions.specs.Observations.{chainOf}
-use Rattle.definitions.specs.Matrix.{passed, fails, passes, Figures, entry, own, matrix, rightHand}
-use Rattle.definitions.specs.Machine.{refused, opened, judged, settled, going, written, empty, holds, rowPart, writeCall}
+use Rattle.definitions.specs.Matrix.{fails, passes, Figures, entry, own, matrix, rightHand}
+use Rattle.definitions.specs.Machine.{refused, judged, empty, holds, rowPart, writeCall}
 use Rattle.definitions.specs.Page.{pageOf}
-use Rattle.integers.specs.Summation.{total}
-use Rattle.laws.specs.Judged.{tab-at}
+use Rattle.laws.specs.Tables.{tab-at}
 use Rattle.laws.specs.Pinned.{Worth, worth, Near, rounded}
-use Rattle.chain.specs.Arrays.{figuresAt}
-use Rattle.session.specs.declared.Session.{Session}
-use Rattle.session.specs.declared.answers.FiguresAnswer.the-variants.{Shown, Refused}
-use Rattle.session.specs.State.{stateOf, sessionHeld}
-use Rattle.session.specs.Calls.{opensTo, judgesTo, sweepsTo, Text, writesTo, showsTo, HoldsFile}
-use Rattle.session.specs.ShowLaws.{entry-at}
-use Rattle.desk.specs.declared.answers.Refusal.{Refusal}
-use Rattle.desk.specs.declared.answers.Judged.{Judged}
-use Rattle.desk.specs.declared.answers.Swept.{Swept}
-use Rattle.desk.specs.declared.answers.RowShown.{RowShown}
-use Rattle.desk.specs.declared.answers.System.{System}
-use Rattle.desk.specs.Told.{refusalTold, judgeTold, sweepTold, rowTold, systemTold}
+use Rattle.holding.specs.State.{Held, stateOf, heldIn, HoldsFile}
+use Rattle.showing.specs.declared.FiguresAnswer.the-variants.{Refused}
+use Rattle.opening.specs.Opens.{opensTo}
+use Rattle.judging.specs.Judges.{judgesTo}
+use Rattle.sweeping.specs.Sweeps.{sweepsTo}
+use Rattle.writing.specs.Writes.{Text, writesTo}
+use Rattle.showing.specs.Shows.{showsTo}
+use Rattle.showing.specs.ShowLaws.{entry-at}
+use Rattle.telling.specs.declared.Refusal.{Refusal}
+use Rattle.telling.specs.declared.Judged.{Judged}
+use Rattle.telling.specs.declared.Swept.{Swept}
+use Rattle.telling.specs.declared.RowShown.{RowShown}
+use Rattle.telling.specs.declared.System.{System}
+use Rattle.telling.specs.Told.{refusalTold, judgeTold, sweepTold, rowTold, systemTold}
 use Rattle.desk.specs.Calls.{Opens, Judges, Sweeps, Writes, Reads, Pages, Shows, Closes, ShowsRow}
 
 abbrev refusal : ℕ → ℕ → Refusal
 refusal number place = record { number = number; place = place }
 
-pub record Pinned : Type 0 where
-  pub opened-file : refusalTold opened ≡ refusal 0 0
-  pub refused-file : refusalTold (refused 9 86) ≡ refusal 9 86
-  pub written-mean : refusalTold written ≡ refusal 0 0
-  pub passed-mean : judgeTold (judged passed) ≡ record { refusal = refusal 0 0; passed = 1; part = 0 }
-  pub failing-mean : judgeTold (judged (fails 2)) ≡ record { refusal = refusal 0 0; passed = 0; part = 2 }
-  pub refused-record : judgeTold (refused 11 5) ≡ record { refusal = refusal 11 5; passed = 0; part = 0 }
-  pub settled-mean : sweepTold (settled 5) ≡ record { refusal = refusal 0 0; settled = 1; total = 5 }
-  pub going-mean : sweepTold (going 5) ≡ record { refusal = refusal 0 0; settled = 0; total = 5 }
-  pub spent-sweeps : sweepTold (refused 23 0) ≡ record { refusal = refusal 23 0; settled = 0; total = 0 }
-  -- File F's incurred amounts of year 0
-  pub shown-row : rowTold 1 1 0 clear ≡ record { refusal = refusal 0 0; start = 94; length = 16 }
-  pub shown-system : systemTold (record { answer = Shown; figures = figuresAt 1 2 (3 ∷ []) (negsuc 4 ∷ []) (pos 6 ∷ []) })
-      ≡ record { refusal = refusal 0 0; last = 1; closeness = 2; own = 3 ∷ []; matrix = negsuc 4 ∷ []; «right_hand» = pos 6 ∷ [] }
-  pub refused-system : systemTold (record { answer = Refused 21 0; figures = figuresAt 0 0 [] [] [] }) .refusal ≡ refusal 21 0
-  pub refused-row : rowTold 1 1 2 (refuses 15 0) ≡ record { refusal = refusal 15 0; start = 0; length = 0 }
-
-pub pinned : Pinned
-unfolding rowStart total
-pinned = record {
-  opened-file = refl;
-  refused-file = refl;
-  written-mean = refl;
-  passed-mean = refl;
-  failing-mean = refl;
-  refused-record = refl;
-  settled-mean = refl;
-  going-mean = refl;
-  spent-sweeps = refl;
-  shown-row = refl;
-  shown-system = refl;
-  refused-system = refl;
-  refused-row = refl;
-}
-
--- ---- the contracts, each drawn on alone
-
 -- what C gets and what is left, by the machine's outcome; a call that is refused leaves the session as it was
-module _ (s t : Session) where
+module _ (s t : Held) where
   module _ (file : Bytes) (r : Refusal) (call : Opens s file r t) where
     pub open-told : opensTo (stateOf s) file .answer ≡ refused 9 86 → r ≡ refusal 9 86
     open-told e = call .told ∙ ap refusalTold e
@@ -101,10 +64,10 @@ module _ (s t : Session) where
     pub sweep-done : sweepsTo (stateOf s) n .answer ≢ refused 0 0
     sweep-done = call .numbered 0
 
-  pub closed : (held : List ℕ) → Closes held → (own : List ℕ) (A b μ : List ℤ) → stateOf (sessionHeld held own A b μ) ≡ empty
+  pub closed : (held : List ℕ) → Closes held → (own : List ℕ) (A b μ : List ℤ) → stateOf (heldIn held own A b μ) ≡ empty
   closed held call = call
 
-module _ (s : Session) (lent : Bytes) where
+module _ (s : Held) (lent : Bytes) where
   module _ (r : Judged) (call : Judges s lent r) where
     pub judge-told : judgesTo (stateOf s) lent ≡ judged (fails 2) → r ≡ record { refusal = refusal 0 0; passed = 0; part = 2 }
     judge-told e = call .told ∙ ap judgeTold e
@@ -146,7 +109,7 @@ module _ (s : Session) (lent : Bytes) where
     page-short r after call short =
         let l = lt-ltb _ _ short in (call .told ∙ rw (some, p, l) refl, call .buffer ∙ rw (some, p, l) refl)
 
-module _ (s : Session) (r : System) (call : Shows s r) where
+module _ (s : Held) (r : System) (call : Shows s r) where
   pub none-shown : stateOf s ≡ empty
       → r ≡ record {
         refusal = refusal 21 0;
@@ -214,7 +177,7 @@ module _ (file : Bytes) (channel year : ℕ) (r : RowShown) (call : ShowsRow fil
   pub row-done : rowCheck file channel year ≢ refuses 0 0
   row-done = call .numbered 0
 
-module _ (f : Bytes) (s : Session) (μ : List ℤ) (count : ℕ) (open-file : HoldsFile s f μ count) where
+module _ (f : Bytes) (s : Held) (μ : List ℤ) (count : ℕ) (open-file : HoldsFile s f μ count) where
   module _ (mean : Bytes) (r : Judged) (call : Judges s mean r) where
     pub judge-worth : {e : ℕ} → closeness f ≡ e → r .passed ≡ 1 → Worth f e (part (meanOf (lastYear f) mean))
     judge-worth close passing = worth f close (call .worth f μ count open-file passing)
@@ -222,7 +185,7 @@ module _ (f : Bytes) (s : Session) (μ : List ℤ) (count : ℕ) (open-file : Ho
     pub judge-rounded : recordCheck (lastYear f) mean ≡ clear → Near f (part (meanOf (lastYear f) mean)) → r .passed ≡ 1
     judge-rounded right h = call .rounded f μ count open-file right (rounded f h)
 
-  module _ (n : ℕ) (r : Swept) (t : Session) (call : Sweeps s n r t) (ν : List ℤ) where
+  module _ (n : ℕ) (r : Swept) (t : Held) (call : Sweeps s n r t) (ν : List ℤ) where
     pub sweep-worth : HoldsFile t f ν (r .total) → {e : ℕ} → closeness f ≡ e → r .settled ≡ 1 → Worth f e (part ν)
     sweep-worth then close settling = worth f close (call .worth f μ ν count open-file then settling)
 

@@ -1,16 +1,6 @@
 // What C calls. `held` has J (0 while nothing is open), the closeness and the sweeps run since open.
-ghost use Rattle.session.specs.State.{sessionHeld};
+ghost use Rattle.holding.specs.State.{heldIn};
 ghost use Rattle.desk.specs.Calls.{Opens, Judges, Sweeps, Reads, Pages, Shows, Closes, ShowsRow};
-use crate::answers::Judged;
-use crate::answers::Refusal;
-use crate::answers::RowShown;
-use crate::answers::Swept;
-use crate::answers::System;
-use crate::answers::judge_told;
-use crate::answers::open_told;
-use crate::answers::sweep_told;
-use crate::answers::system_told;
-use crate::answers::write_told;
 use layout::checks::Check;
 use readings::rows::row_place;
 use readings::rows::row_told;
@@ -20,6 +10,16 @@ use session::lent::open_lent;
 use session::lent::page_lent;
 use session::lent::read_lent;
 use session::lent::sweep_lent;
+use telling::Judged;
+use telling::Refusal;
+use telling::RowShown;
+use telling::Swept;
+use telling::System;
+use telling::judge_told;
+use telling::open_told;
+use telling::sweep_told;
+use telling::system_told;
+use telling::write_told;
 
 // 22, then 1 to 10, then 16.
 #[no_mangle]
@@ -32,9 +32,9 @@ pub extern "C" fn desk_open_lent<'a>(
     file: &'a [u8],
 ) -> Refusal
     ensures { λ r. ⌜ Opens
-        (sessionHeld (now (held .entry)) (now (own .entry)) (now (matrix .entry)) (now («right_hand» .entry)) (now (mean .entry)))
+        (heldIn (now (held .entry)) (now (own .entry)) (now (matrix .entry)) (now («right_hand» .entry)) (now (mean .entry)))
         (now (file .entry)) r
-        (sessionHeld (now (held .exit)) (now (own .exit)) (now (matrix .exit)) (now («right_hand» .exit)) (now (mean .exit))) ⌝ }
+        (heldIn (now (held .exit)) (now (own .exit)) (now (matrix .exit)) (now («right_hand» .exit)) (now (mean .exit))) ⌝ }
 {
     open_told(open_lent(held, own, matrix, right_hand, mean, file))
 }
@@ -50,7 +50,7 @@ pub extern "C" fn desk_judge_lent<'a>(
     lent: &'a [u8],
 ) -> Judged
     ensures { λ r. ⌜ Judges
-        (sessionHeld (now (held .entry)) (now (own .entry)) (now (matrix .entry)) (now («right_hand» .entry)) (now (mean .entry)))
+        (heldIn (now (held .entry)) (now (own .entry)) (now (matrix .entry)) (now («right_hand» .entry)) (now (mean .entry)))
         (now (lent .entry)) r ⌝ }
 {
     judge_told(judge_lent(
@@ -76,9 +76,9 @@ pub extern "C" fn desk_sweep_lent<'a>(
     n: u64,
 ) -> Swept
     ensures { λ r. ⌜ Sweeps
-        (sessionHeld (now (held .entry)) (now (own .entry)) (now (matrix .entry)) (now («right_hand» .entry)) (now (mean .entry)))
+        (heldIn (now (held .entry)) (now (own .entry)) (now (matrix .entry)) (now («right_hand» .entry)) (now (mean .entry)))
         n r
-        (sessionHeld (now (held .exit)) (now (own .entry)) (now (matrix .entry)) (now («right_hand» .entry)) (now (mean .exit))) ⌝ }
+        (heldIn (now (held .exit)) (now (own .entry)) (now (matrix .entry)) (now («right_hand» .entry)) (now (mean .exit))) ⌝ }
 {
     let last = held[0];
     let closeness = held[1];
@@ -109,7 +109,7 @@ pub extern "C" fn desk_read_lent<'a>(
     buffer: &'a mut [u8],
 ) -> Refusal
     ensures { λ r. ⌜ Reads
-        (sessionHeld (now (held .entry)) (now (own .entry)) (now (matrix .entry)) (now («right_hand» .entry)) (now (mean .entry)))
+        (heldIn (now (held .entry)) (now (own .entry)) (now (matrix .entry)) (now («right_hand» .entry)) (now (mean .entry)))
         (now (buffer .entry)) r (now (buffer .exit)) ⌝ }
 {
     write_told(read_lent(
@@ -135,7 +135,7 @@ pub extern "C" fn desk_page_lent<'a>(
     buffer: &'a mut [u8],
 ) -> Refusal
     ensures { λ r. ⌜ Pages
-        (sessionHeld (now (held .entry)) (now (own .entry)) (now (matrix .entry)) (now («right_hand» .entry)) (now (mean .entry)))
+        (heldIn (now (held .entry)) (now (own .entry)) (now (matrix .entry)) (now («right_hand» .entry)) (now (mean .entry)))
         (now (buffer .entry)) r (now (buffer .exit)) ⌝ }
 {
     write_told(page_lent(
@@ -160,7 +160,7 @@ pub extern "C" fn desk_figures_lent<'a>(
     mean: &'a [i64; 31],
 ) -> System
     ensures { λ r. ⌜ Shows
-        (sessionHeld (now (held .entry)) (now (own .entry)) (now (matrix .entry)) (now («right_hand» .entry)) (now (mean .entry)))
+        (heldIn (now (held .entry)) (now (own .entry)) (now (matrix .entry)) (now («right_hand» .entry)) (now (mean .entry)))
         r ⌝ }
 {
     system_told(figures_lent(

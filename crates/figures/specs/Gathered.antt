@@ -20,7 +20,7 @@ use Rattle.laws.specs.FileLimits.{logarithm-limit, y-limit, file-limits}
 use Rattle.laws.specs.PrecisionMatrix.{ratios-by-development}
 use Rattle.layout.specs.Checks.{Whole}
 use Rattle.chain.specs.Arrays.{figuresAt, figuresOf, cell, cell-at, cell-mirrored}
-use Rattle.chain.specs.Held.{tab-cong}
+use Rattle.laws.specs.Tables.{tab-cong}
 use Rattle.figures.specs.Reading.{ColumnWeights, PriorWeights, PriorMeans, Logarithms}
 use Rattle.figures.specs.Weights.{at, Adds, RatioWeights, Shares, SharesOf, Owns, OwnWeights}
 use Rattle.figures.specs.Entries.{OfMatrix, MatrixOf}

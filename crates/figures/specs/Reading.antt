@@ -9,7 +9,7 @@ use Rattle.definitions.specs.Logarithm.{logarithm}
 use Rattle.definitions.specs.Refusals.{yearLimit}
 use Rattle.definitions.specs.Weight.{weight}
 use Rattle.layout.specs.Checks.{Whole}
-use Rattle.figures.specs.Filled.{Filled}
+use Rattle.chain.specs.Filled.{Filled}
 
 pub record ColumnWeights (f : Bytes) (r : List ℕ) : Type 0 where
   pub filled : Filled 31 (parts (lastYear f)) 0 (λ k. weight (varianceOf f k)) r

@@ -9,7 +9,7 @@ use Rattle.definitions.specs.Layout.{parts, cells, rowStart}
 use Rattle.definitions.specs.Refusals.{yearLimit}
 use Rattle.definitions.specs.Matrix.{Part, Φ, Ψ, partOf}
 use Rattle.laws.specs.Ranks.{rankOf, signOf}
-use Rattle.figures.specs.Filled.{Filled}
+use Rattle.chain.specs.Filled.{Filled}
 use Rattle.figures.specs.Weights.{at}
 
 -- every logarithm is at most 2^26 in size

@@ -13,7 +13,7 @@ use Rattle.definitions.specs.Observations.{ratioVariance}
 use Rattle.layout.specs.Checks.{Whole}
 use Rattle.definitions.specs.Refusals.{yearLimit}
 use Rattle.definitions.specs.Weight.{weight}
-use Rattle.figures.specs.Filled.{Filled}
+use Rattle.chain.specs.Filled.{Filled}
 
 -- element k of an array of naturals
 abbrev pub at : List ℕ → ℕ → ℕ

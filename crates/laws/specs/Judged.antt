@@ -4,11 +4,10 @@ use mathlib.Core.Path.{_≡_, refl, sym, ap, ap₂, _∙_, subst}
 use mathlib.Core.Logic.{_⊎_, inl, inr}
 use mathlib.Core.List.{[]}
 use mathlib.Core.Bool.{Bool, true, false, cond, false≢true}
-use native.Mathlib.Nat.{zero-add, add-suc, suc-add, le-of-suc-le-suc, not-suc-le-zero, eq-or-lt-of-le}
+use native.Mathlib.Nat.{eq-or-lt-of-le}
 use native.Mathlib.Omega.{arith}
 use lib.Dec.{T, leb, leb→le, le→leb}
 use lib.IntN.{pos, natAbs, _-ℤ_, _*ℤ_}
-use lib.ListN.{getD, length}
 use Rattle.integers.specs.Ring.{*ℤ-idl}
 use Rattle.integers.specs.Sum.{sum-cong}
 use Rattle.definitions.specs.Words.{tabFrom, part}
@@ -16,25 +15,7 @@ use Rattle.definitions.specs.Layout.{Bytes, lastYear, closeness, parts}
 use Rattle.definitions.specs.Loss.{Vector}
 use Rattle.definitions.specs.Observations.{Chain, chainOf}
 use Rattle.definitions.specs.Matrix.{own, matrix, rightHand, residueTimes, Figures, figuresOf, entry, residue, partPasses, judgeFrom, fails, isPassed, passes}
-
--- ---- a tabulated list
-
-pub tabFrom-length : {A : Type 0} (i n : ℕ) (f : ℕ → A) → length (tabFrom i n f) ≡ n
-unfolding tabFrom
-tabFrom-length i zero f = refl
-tabFrom-length i (suc n) f = ap suc (tabFrom-length (suc i) n f)
-
-pub tabFrom-at : {A : Type 0} (i n : ℕ) (f : ℕ → A) (k : ℕ) (d : A) → k < n → getD (tabFrom i n f) k d ≡ f (i + k)
-unfolding tabFrom
-tabFrom-at i zero f k d h = absurd (not-suc-le-zero h)
-tabFrom-at i (suc n) f zero d h = ap f (sym (start i))
-  where
-    start : (i : ℕ) → i + 0 ≡ i
-    start i = omega arith
-tabFrom-at i (suc n) f (suc k) d h = tabFrom-at (suc i) n f k d (le-of-suc-le-suc h) ∙ ap f (suc-add i k ∙ sym (add-suc i k))
-
-pub tab-at : {A : Type 0} (n : ℕ) (f : ℕ → A) (k : ℕ) (d : A) → k < n → getD (tabFrom 0 n f) k d ≡ f k
-tab-at n f k d h = tabFrom-at 0 n f k d h ∙ ap f (zero-add k)
+use Rattle.laws.specs.Tables.{tab-at}
 
 -- ---- passed, part by part
 

@@ -1,4 +1,5 @@
 -- What follows from the definitions: why the promises hold. To search, not to read.
+--   Tables            a tabulated list: its length, its elements, and two with the same
 --   LogarithmBits     the bits stand behind h, and are below T
 --   LogarithmBound    2^L ≤ a^T < 2^(L+2), for any number of squarings; a logarithm is at most that of the limit
 --   LogarithmOrder    the larger the amount, the larger its logarithm
@@ -29,6 +30,7 @@
 --   PinnedPage        both once more, byte by byte and in plain numbers
 --   Printed           what the two programs print for every input: by the answer of their last call, and in at most 4,096 bytes
 --   Numbers           a refusal has a number of at least 1
+pub mod Tables
 pub mod LogarithmBits
 pub mod LogarithmBound
 pub mod LogarithmOrder

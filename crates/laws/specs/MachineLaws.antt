@@ -19,7 +19,7 @@ use Rattle.definitions.specs.Machine.{Call, open-file, judge, sweep, read, page
 use Rattle.definitions.specs.Machine.{State, empty, holds, Outcome, openCheck, isClear, accepted, openUnless}
 use Rattle.definitions.specs.Machine.{openCall, judgeCall, sweepCall, writeCall, recordIn, pageIn, outcome, outcomes, machine, figuresMachine}
 use Rattle.laws.specs.Accepted.{accepted-file, AcceptedFile}
-use Rattle.laws.specs.Judged.{tab-at, tabFrom-length}
+use Rattle.laws.specs.Tables.{tab-at, tabFrom-length}
 use Rattle.laws.specs.SweepLaws.{MeanOf, sweeps-came}
 
 -- ---- the machine on figures

@@ -19,7 +19,7 @@ use Rattle.definitions.specs.Page.{pageLine, pageOf, columns, LineFits, PageFit
 use Rattle.definitions.specs.Machine.{accepted}
 use Rattle.laws.specs.Accepted.{accepted-file}
 use Rattle.laws.specs.FileLimits.{file-limits}
-use Rattle.laws.specs.Judged.{tab-at}
+use Rattle.laws.specs.Tables.{tab-at}
 use Rattle.laws.specs.Decimal.{aligned-read, aligned-length, decimal-length, signed-length, From, from-append, aligned-from}
 use Rattle.laws.specs.Lines.{lines-same, lines-length, line-at, Line, ended, line-behind, same-lines}
 

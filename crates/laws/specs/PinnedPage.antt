@@ -16,7 +16,7 @@ use Rattle.definitions.specs.Matrix.{Φ, Ψ, partOf, own, figuresOf}
 use Rattle.definitions.specs.Text.{ascii, readNumber, nameOf, indexOf}
 use Rattle.definitions.specs.Page.{pageLine, pageOf, PageFits}
 use Rattle.definitions.specs.Machine.{accepted}
-use Rattle.laws.specs.Judged.{tab-at}
+use Rattle.laws.specs.Tables.{tab-at}
 use Rattle.laws.specs.Pages.{file-page-fits, page-injective}
 
 -- some bytes of a line that ends behind them

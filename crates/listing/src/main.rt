@@ -6,7 +6,8 @@ ghost use Rattle.definitions.specs.Matrix.{partOf};
 ghost use Rattle.definitions.specs.Programs.{partLine, listing};
 ghost use Rattle.laws.specs.Printed.{MeanSettled};
 ghost use Rattle.text.specs.Added.{Added};
-ghost use Rattle.session.specs.State.{stateOf};
+ghost use Rattle.holding.specs.State.{stateOf};
+ghost use Rattle.session.specs.Value.{heldBy};
 ghost use Rattle.settling.specs.Printed.{Prints};
 ghost use Rattle.listing.specs.Listing.{OfParts, recordLines};
 use fields::SignedField;
@@ -66,7 +67,7 @@ fn put_parts(page: &mut [u8], at: usize, last: usize, record: &[u8; 129]) -> usi
 // The mean that settled, below J and the sweeps that were run. It is read back, which is never refused: it passes, and no record
 // has more than 129 bytes.
 fn list_mean(given: &[u8], s: Session, total: u64) -> Printed
-    requires { ⌜ MeanSettled (now given) (stateOf s) total ⌝ }
+    requires { ⌜ MeanSettled (now given) (stateOf (heldBy s)) total ⌝ }
     ensures { λ r. ⌜ Prints (listing (now (given .entry))) r ⌝ }
 {
     let mut record = [0u8; 129];

@@ -1,36 +1,11 @@
-// What the calls answer. A refusal has the specification's number and place.
+// What the calls answer.
 use crate::Session;
-use chain::arrays::Figures;
-
-pub enum OpenAnswer {
-    Opened,
-    Refused(u64, usize),
-}
-
-pub enum JudgeAnswer {
-    Passed,
-    // The first part that fails.
-    Fails(usize),
-    Refused(u64, usize),
-}
-
-// With how many sweeps were run since the file was opened.
-pub enum SweepAnswer {
-    Settled(u64),
-    Going(u64),
-    Refused(u64, usize),
-}
-
-// Of a call that writes to a buffer.
-pub enum WriteAnswer {
-    Written,
-    Refused(u64, usize),
-}
-
-pub enum FiguresAnswer {
-    Shown,
-    Refused(u64, usize),
-}
+pub use judging::JudgeAnswer;
+pub use opening::OpenAnswer;
+pub use showing::FiguresAnswer;
+pub use showing::Showing;
+pub use sweeping::SweepAnswer;
+pub use writing::WriteAnswer;
 
 // An answer, with the session afterwards.
 pub struct Opening {
@@ -41,10 +16,4 @@ pub struct Opening {
 pub struct Sweeping {
     pub answer: SweepAnswer,
     pub session: Session,
-}
-
-// An answer, with the figures that are shown: the matrix whole, and zeros outside the parts 0..2J. All are 0 where it is refused.
-pub struct Showing {
-    pub answer: FiguresAnswer,
-    pub figures: Figures,
 }

@@ -1,8 +1,13 @@
 // The calls over a session that is a value.
 ghost use mathlib.Core.Path.{_≡_};
 ghost use Rattle.definitions.specs.Machine.{State};
-ghost use Rattle.session.specs.State.{stateOf};
-ghost use Rattle.session.specs.Calls.{Opens, Judges, Sweeps, Reads, Pages, Shows};
+ghost use Rattle.holding.specs.State.{stateOf};
+ghost use Rattle.judging.specs.Judges.{Judges};
+ghost use Rattle.opening.specs.Opens.{Opens};
+ghost use Rattle.session.specs.Value.{heldBy};
+ghost use Rattle.showing.specs.Shows.{Shows};
+ghost use Rattle.sweeping.specs.Sweeps.{Sweeps};
+ghost use Rattle.writing.specs.Writes.{Reads, Pages};
 use crate::Session;
 use crate::answers::JudgeAnswer;
 use crate::answers::Opening;
@@ -20,7 +25,7 @@ use chain::arrays::Figures;
 
 // 22, then 1 to 10, then 16.
 pub fn open(s: Session, file: &[u8]) -> Opening
-    ensures { λ r. ⌜ Opens s (now (file .entry)) r ⌝ }
+    ensures { λ r. ⌜ Opens (heldBy s) (now (file .entry)) (r .answer) (heldBy (r .session)) ⌝ }
 {
     let figures = s.figures;
     let mut held = [figures.last as u64, figures.closeness, s.total];
@@ -56,7 +61,7 @@ pub fn open(s: Session, file: &[u8]) -> Opening
 
 // 21, then 1, 2, 4 and 11.
 pub fn judge(s: Session, lent: &[u8]) -> JudgeAnswer
-    ensures { λ r. ⌜ Judges s (now (lent .entry)) r ⌝ }
+    ensures { λ r. ⌜ Judges (heldBy s) (now (lent .entry)) r ⌝ }
 {
     judge_lent(
         s.figures.last,
@@ -72,7 +77,7 @@ pub fn judge(s: Session, lent: &[u8]) -> JudgeAnswer
 
 // 21, 12, settled, 23.
 pub fn sweep(s: Session, n: u64) -> Sweeping
-    ensures { λ r. ⌜ Sweeps s n r ⌝ }
+    ensures { λ r. ⌜ Sweeps (heldBy s) n (r .answer) (heldBy (r .session)) ⌝ }
 {
     let figures = s.figures;
     let mut mean = s.mean;
@@ -100,7 +105,7 @@ pub fn sweep(s: Session, n: u64) -> Sweeping
 
 // 21, 24, 13. The record at the front of the buffer; the bytes behind it stay.
 pub fn read(s: Session, buffer: &mut [u8]) -> WriteAnswer
-    ensures { λ r. ⌜ Reads s (now (buffer .entry)) r (now (buffer .exit)) ⌝ }
+    ensures { λ r. ⌜ Reads (heldBy s) (now (buffer .entry)) r (now (buffer .exit)) ⌝ }
 {
     read_lent(
         s.figures.last,
@@ -116,7 +121,7 @@ pub fn read(s: Session, buffer: &mut [u8]) -> WriteAnswer
 
 // 21, 24, 13. The page at the front of the buffer; the bytes behind it stay.
 pub fn page(s: Session, buffer: &mut [u8]) -> WriteAnswer
-    ensures { λ r. ⌜ Pages s (now (buffer .entry)) r (now (buffer .exit)) ⌝ }
+    ensures { λ r. ⌜ Pages (heldBy s) (now (buffer .entry)) r (now (buffer .exit)) ⌝ }
 {
     page_lent(
         s.figures.last,
@@ -132,7 +137,7 @@ pub fn page(s: Session, buffer: &mut [u8]) -> WriteAnswer
 
 // 21. The figures that judge and sweep go by, the matrix whole.
 pub fn figures(s: Session) -> Showing
-    ensures { λ r. ⌜ Shows s r ⌝ }
+    ensures { λ r. ⌜ Shows (heldBy s) r ⌝ }
 {
     figures_lent(
         s.figures.last,
@@ -147,7 +152,7 @@ pub fn figures(s: Session) -> Showing
 
 // Never refuses.
 pub fn close(_s: Session) -> Session
-    ensures { λ r. ⌜ stateOf r ≡ State.empty ⌝ }
+    ensures { λ r. ⌜ stateOf (heldBy r) ≡ State.empty ⌝ }
 {
     empty()
 }

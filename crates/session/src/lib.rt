@@ -1,13 +1,12 @@
 // The calls of the desk. A session is a value: a call takes it and, where it may change, gives it back. `lent` has the same calls
 // over a session whose arrays are lent one by one, so that none is copied. No call asks anything of its caller; each has one
 // equation with the specification's machine, refused calls included; that of `figures`, which the machine does not have, is with its state.
+// Each call stands in a crate of its own, with its contract; here they are gathered.
 use chain::arrays::Figures;
 
 pub mod answers;
-mod bounds;
 pub mod calls;
 pub mod lent;
-mod shown;
 pub mod state;
 
 // Nothing (J = 0), or the figures of an accepted file, the mean and the sweeps run since open.

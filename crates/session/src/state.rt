@@ -1,15 +1,22 @@
 // The empty session.
 ghost use mathlib.Core.Path.{_≡_};
-ghost use Rattle.session.specs.State.{stateOf};
 ghost use Rattle.definitions.specs.Machine.{State};
+ghost use Rattle.holding.specs.State.{stateOf};
+ghost use Rattle.session.specs.Value.{heldBy};
 use crate::Session;
-use crate::shown::no_figures;
+use chain::arrays::Figures;
 
 // Nothing is open.
 pub fn empty() -> Session
-    ensures { λ r. ⌜ stateOf r ≡ State.empty ⌝ }
+    ensures { λ r. ⌜ stateOf (heldBy r) ≡ State.empty ⌝ }
 {
-    let figures = no_figures();
+    let figures = Figures {
+        last: 0,
+        closeness: 0,
+        own: [0; 31],
+        matrix: [0; 961],
+        right_hand: [0; 31],
+    };
     Session {
         figures: figures,
         mean: [0; 31],

@@ -10,32 +10,33 @@ use Rattle.definitions.specs.Matrix.{figuresOf}
 use Rattle.definitions.specs.Programs.{Show, programText, refusalLine, spentLine}
 use Rattle.definitions.specs.Machine.{opened, refused, writeCall}
 use Rattle.laws.specs.Printed.{MeanSettled, Ends, opening, sweeping, swept-ends}
-use Rattle.session.specs.declared.Session.{Session}
-use Rattle.session.specs.declared.answers.SweepAnswer.{SweepAnswer}
-use Rattle.session.specs.declared.answers.SweepAnswer.the-variants.{Settled, Going, Refused}
+use Rattle.holding.specs.State.{Held, stateOf}
+use Rattle.sweeping.specs.declared.SweepAnswer.{SweepAnswer}
+use Rattle.sweeping.specs.declared.SweepAnswer.the-variants.{Settled, Going, Refused}
+use Rattle.sweeping.specs.Sweeps.{ofSweep}
+use Rattle.writing.specs.declared.WriteAnswer.{WriteAnswer}
+use Rattle.writing.specs.declared.WriteAnswer.the-variants.{Refused as WriteRefused}
+use Rattle.writing.specs.Writes.{ofWrite, Text, Writes}
+use Rattle.writing.specs.WriteLaws.{refused-written}
 use Rattle.session.specs.declared.answers.Sweeping.{Sweeping}
-use Rattle.session.specs.declared.answers.WriteAnswer.{WriteAnswer}
-use Rattle.session.specs.declared.answers.WriteAnswer.the-variants.{Refused as WriteRefused}
-use Rattle.session.specs.State.{stateOf}
-use Rattle.session.specs.Calls.{ofSweep, ofWrite, Text, Writes}
-use Rattle.session.specs.WriteLaws.{refused-written}
+use Rattle.session.specs.Value.{heldBy}
 
 -- by its answer: what is printed, whatever would be shown of a mean; or that the session holds the mean that is shown
 pub record Settles (given : Bytes) (r : Sweeping) : Type 0 where
   pub refused : (number place : ℕ) → r .answer ≡ Refused number place
       → (show : Show) → programText show given ≡ refusalLine number place
   pub going : (total : ℕ) → r .answer ≡ Going total → (show : Show) → programText show given ≡ spentLine total
-  pub settled : (total : ℕ) → r .answer ≡ Settled total → MeanSettled given (stateOf (r .session)) total
+  pub settled : (total : ℕ) → r .answer ≡ Settled total → MeanSettled given (stateOf (heldBy (r .session))) total
 
 module _ (given : Bytes) (r : Sweeping) where
-  pub settles-by : Ends given (stateOf (r .session)) (ofSweep (r .answer)) → Settles given r
+  pub settles-by : Ends given (stateOf (heldBy (r .session))) (ofSweep (r .answer)) → Settles given r
   settles-by e = record { refused = λ number place same. told same; going = λ total same. told same; settled = λ total same. told same }
     where
-      told : {a : SweepAnswer} → r .answer ≡ a → Ends given (stateOf (r .session)) (ofSweep a)
-      told same = subst (λ a. Ends given (stateOf (r .session)) (ofSweep a)) same e
+      told : {a : SweepAnswer} → r .answer ≡ a → Ends given (stateOf (heldBy (r .session))) (ofSweep a)
+      told same = subst (λ a. Ends given (stateOf (heldBy (r .session))) (ofSweep a)) same e
 
   pub settles-swept : length given < 2807 → opened ≡ opening given .answer
-      → ofSweep (r .answer) ≡ sweeping given .answer → stateOf (r .session) ≡ sweeping given .state → Settles given r
+      → ofSweep (r .answer) ≡ sweeping given .answer → stateOf (heldBy (r .session)) ≡ sweeping given .state → Settles given r
   settles-swept short taken answer state = settles-by (rw (answer, state) (swept-ends given short taken))
 
 -- ---- what is written of a mean that settled
@@ -47,7 +48,7 @@ pub record WritesWhole (size : ℕ → ℕ) (text : Text) (given : Bytes) (μ : 
   pub buffer : after ≡ text (figuresOf given) μ ++ drop (size (lastYear given)) before
 
 -- it passes, so that only the room counts
-pub writes-whole : {size : ℕ → ℕ} {text : Text} {given : Bytes} {s : Session} {total : ℕ} {before after : Bytes} {r : WriteAnswer}
+pub writes-whole : {size : ℕ → ℕ} {text : Text} {given : Bytes} {s : Held} {total : ℕ} {before after : Bytes} {r : WriteAnswer}
     → (m : MeanSettled given (stateOf s) total) → Writes size text s before r after → size (lastYear given) ≤ length before
     → WritesWhole size text given (m .mean) before r after
 unfolding writeCall figuresOf

@@ -8,8 +8,10 @@ use lib.ListN.{length}
 use Rattle.definitions.specs.Layout.{Bytes}
 use Rattle.definitions.specs.Machine.{opened}
 use Rattle.laws.specs.Printed.{opening, long-text, refused-text}
-use Rattle.session.specs.State.{stateOf}
-use Rattle.session.specs.Calls.{ofOpen, opensTo, sweepsTo}
+use Rattle.holding.specs.State.{stateOf}
+use Rattle.opening.specs.Opens.{ofOpen, opensTo}
+use Rattle.sweeping.specs.Sweeps.{sweepsTo}
+use Rattle.session.specs.Value.{heldBy}
 use Rattle.settling.specs.Settles.{settles-by, settles-swept}
 use Rattle.settling.proofs.settle.Statement.{statement}
 use Rattle.settling.proofs.settle.Tie as tie
@@ -25,7 +27,7 @@ module _ (c : tie.After-open) where
   open-answer : ofOpen (c .«open» .result .answer) ≡ opening bytes .answer
   open-answer = c .«open» .ensures .answer ∙ ap (λ st. opensTo st bytes .answer) (c .before .before .empty .ensures)
 
-  open-state : stateOf (c .«open» .result .session) ≡ opening bytes .state
+  open-state : stateOf (heldBy (c .«open» .result .session)) ≡ opening bytes .state
   open-state = c .«open» .ensures .state ∙ ap (λ st. opensTo st bytes .state) (c .before .before .empty .ensures)
 
 empty-requires : tie.Need-empty-requires

@@ -21,7 +21,8 @@ use Rattle.chain.specs.Decides.{decided-yes, decided-no, not-yes, not-no
 use Rattle.chain.specs.Fitting.{Inside, rowLimit, residueLimit}
 use Rattle.chain.specs.Residues.{OfMean, RowFits, RowsFit}
 use Rattle.chain.specs.Sizes.{row-fits, sum-fits, difference-fits, mean-at, residue-at}
-use Rattle.chain.specs.Turned.{Turned, turned-none, turned-next, turned-as, zeros-at, here-or-before}
+use Rattle.chain.specs.Filled.{empty-at}
+use Rattle.chain.specs.Turned.{Turned, turned-none, turned-next, turned-as, here-or-before}
 use Rattle.chain.proofs.residues.residues.Statement.{statement}
 use Rattle.chain.proofs.residues.residues.Tie as tie
 
@@ -119,7 +120,7 @@ add-parts : tie.Need-add-parts Inv-loop μ-loop
 add-parts c = omega (arith, c .pre .years)
 
 loop-holds : tie.Need-loop-holds Inv-loop μ-loop
-loop-holds c = (omega arith, λ i none. absurd (omega arith), turned-none refl (zeros-at 31))
+loop-holds c = (omega arith, λ i none. absurd (omega arith), turned-none refl (λ i. empty-at 31 i (pos 0)))
 
 row-times-requires : tie.Need-row-times-requires Inv-loop μ-loop
 row-times-requires c κs =

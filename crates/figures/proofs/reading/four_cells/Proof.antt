@@ -8,7 +8,7 @@ use denote.Ref.{now}
 use Rattle.definitions.specs.Layout.{lastYear}
 use Rattle.definitions.specs.Logarithm.{logarithm}
 use Rattle.chain.specs.Bits.{stored, same}
-use Rattle.figures.specs.Filled.{filled-four}
+use Rattle.chain.specs.Filled.{filled-four}
 use Rattle.figures.specs.Reading.{cells-few}
 use borrow.Author.Needs.{needs}
 use Rattle.figures.proofs.reading.four_cells.Statement.{statement}

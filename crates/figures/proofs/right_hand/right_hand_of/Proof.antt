@@ -4,7 +4,7 @@ use mathlib.Core.Path.{_∙_}
 use native.Mathlib.Omega.{arith}
 use lib.IntN.{pos}
 use Rattle.chain.specs.Bits.{same}
-use Rattle.figures.specs.Filled.{Filled, filled-none, filled-next, filled-to}
+use Rattle.chain.specs.Filled.{Filled, filled-none, filled-next, filled-to}
 use Rattle.figures.specs.Sums.{targetFrom}
 use Rattle.figures.proofs.right_hand.right_hand_of.Statement.{statement}
 use Rattle.figures.proofs.right_hand.right_hand_of.Tie as tie

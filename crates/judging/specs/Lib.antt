@@ -1,0 +1,4 @@
+pub mod Judges
+pub mod JudgeLaws
+pub mod MeanOfRecord
+pub mod Pinned

@@ -1,0 +1,4 @@
+pub mod Sweeps
+pub mod SweepLaws
+pub mod SweepCall
+pub mod Pinned
