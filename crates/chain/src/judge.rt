@@ -1,8 +1,8 @@
 // The test of a mean by its residues: |residue| ≤ e·D at each part.
 ghost use mathlib.Core.Path.{_≡_};
 ghost use lib.IntN.{natAbs};
-ghost use Rattle.chain.specs.Judge.{OwnFits, Tested, Passes, judgementOf};
 ghost use Rattle.definitions.specs.Matrix.{isPassed};
+ghost use Rattle.chain.specs.Judge.{OwnFits, Tested, Passes, judgementOf};
 
 pub enum Judgement {
     Passed,

@@ -11,31 +11,31 @@ use Rattle.definitions.specs.Matrix as D
 use Rattle.definitions.specs.Machine.{Answer, refused, State, empty, holds, rowPart}
 use Rattle.laws.specs.Numbers as N
 use Rattle.laws.specs.Rows.{row-inside, row-some, row-shown}
-use Rattle.chain.specs.Arrays.{figuresAt}
 use Rattle.readings.specs.declared.rows.RowPlace.{RowPlace}
 use Rattle.readings.specs.Rows.{Places}
+use Rattle.chain.specs.Arrays.{figuresAt}
 use Rattle.holding.specs.State.{Held, stateOf}
+use Rattle.holding.specs.StateLaws.{stateOf-empty}
 use Rattle.opening.specs.declared.OpenAnswer.{OpenAnswer}
 use Rattle.opening.specs.declared.OpenAnswer.the-variants as O
+use Rattle.opening.specs.Opens as OpenCall
+use Rattle.opening.specs.Opens.{ofOpen}
 use Rattle.judging.specs.declared.JudgeAnswer.{JudgeAnswer}
 use Rattle.judging.specs.declared.JudgeAnswer.the-variants as J
+use Rattle.judging.specs.Judges as JudgeCall
+use Rattle.judging.specs.Judges.{ofJudge}
 use Rattle.sweeping.specs.declared.SweepAnswer.{SweepAnswer}
 use Rattle.sweeping.specs.declared.SweepAnswer.the-variants as S
+use Rattle.sweeping.specs.Sweeps as SweepCall
+use Rattle.sweeping.specs.Sweeps.{ofSweep}
 use Rattle.writing.specs.declared.WriteAnswer.{WriteAnswer}
 use Rattle.writing.specs.declared.WriteAnswer.the-variants as W
+use Rattle.writing.specs.Writes as WriteCall
+use Rattle.writing.specs.Writes.{ofWrite, Text, writesTo}
 use Rattle.showing.specs.declared.FiguresAnswer.{FiguresAnswer}
 use Rattle.showing.specs.declared.FiguresAnswer.the-variants as F
 use Rattle.showing.specs.declared.Showing.{Showing}
-use Rattle.holding.specs.StateLaws.{stateOf-empty}
-use Rattle.opening.specs.Opens as OpenCall
-use Rattle.judging.specs.Judges as JudgeCall
-use Rattle.sweeping.specs.Sweeps as SweepCall
-use Rattle.writing.specs.Writes as WriteCall
 use Rattle.showing.specs.Shows as FiguresCall
-use Rattle.opening.specs.Opens.{ofOpen}
-use Rattle.judging.specs.Judges.{ofJudge}
-use Rattle.sweeping.specs.Sweeps.{ofSweep}
-use Rattle.writing.specs.Writes.{ofWrite, Text, writesTo}
 use Rattle.showing.specs.Shows.{showsTo, FiguresOf}
 use Rattle.telling.specs.declared.Refusal.{Refusal}
 use Rattle.telling.specs.declared.Judged.{Judged}

@@ -16,11 +16,11 @@ use Rattle.definitions.specs.Machine.{Answer, refused, empty, rowPart, recordIn
 use Rattle.definitions.specs.Guarantee.{Guarantee, Rounded}
 use Rattle.chain.specs.Arrays.{figuresAt}
 use Rattle.holding.specs.State.{Held, stateOf, heldIn, HoldsFile}
-use Rattle.showing.specs.declared.FiguresAnswer.the-variants.{Refused}
-use Rattle.writing.specs.Writes.{Text, writesTo}
 use Rattle.opening.specs.Opens.{opensTo}
 use Rattle.judging.specs.Judges.{judgesTo}
 use Rattle.sweeping.specs.Sweeps.{sweepsTo}
+use Rattle.writing.specs.Writes.{Text, writesTo}
+use Rattle.showing.specs.declared.FiguresAnswer.the-variants.{Refused}
 use Rattle.showing.specs.Shows.{showsTo, FiguresOf}
 use Rattle.telling.specs.declared.Refusal.{Refusal}
 use Rattle.telling.specs.declared.Judged.{Judged}

@@ -18,11 +18,11 @@ use Rattle.definitions.specs.Page.{pageOf}
 use Rattle.laws.specs.Tables.{tab-at}
 use Rattle.laws.specs.Pinned.{Worth, worth, Near, rounded}
 use Rattle.holding.specs.State.{Held, stateOf, heldIn, HoldsFile}
-use Rattle.showing.specs.declared.FiguresAnswer.the-variants.{Refused}
 use Rattle.opening.specs.Opens.{opensTo}
 use Rattle.judging.specs.Judges.{judgesTo}
 use Rattle.sweeping.specs.Sweeps.{sweepsTo}
 use Rattle.writing.specs.Writes.{Text, writesTo}
+use Rattle.showing.specs.declared.FiguresAnswer.the-variants.{Refused}
 use Rattle.showing.specs.Shows.{showsTo}
 use Rattle.showing.specs.ShowLaws.{entry-at}
 use Rattle.telling.specs.declared.Refusal.{Refusal}

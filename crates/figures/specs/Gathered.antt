@@ -18,9 +18,9 @@ use Rattle.laws.specs.FileBounds.{g-to}
 use Rattle.laws.specs.Diagonal.{matrix-symmetric}
 use Rattle.laws.specs.FileLimits.{logarithm-limit, y-limit, file-limits}
 use Rattle.laws.specs.PrecisionMatrix.{ratios-by-development}
+use Rattle.laws.specs.Tables.{tab-cong}
 use Rattle.layout.specs.Checks.{Whole}
 use Rattle.chain.specs.Arrays.{figuresAt, figuresOf, cell, cell-at, cell-mirrored}
-use Rattle.laws.specs.Tables.{tab-cong}
 use Rattle.figures.specs.Reading.{ColumnWeights, PriorWeights, PriorMeans, Logarithms}
 use Rattle.figures.specs.Weights.{at, Adds, RatioWeights, Shares, SharesOf, Owns, OwnWeights}
 use Rattle.figures.specs.Entries.{OfMatrix, MatrixOf}

@@ -10,9 +10,9 @@ use Rattle.integers.specs.Sum.{sum}
 use Rattle.definitions.specs.Words.{part}
 use Rattle.definitions.specs.Layout.{Bytes, lastYear, parts, varianceOf}
 use Rattle.definitions.specs.Observations.{ratioVariance}
-use Rattle.layout.specs.Checks.{Whole}
 use Rattle.definitions.specs.Refusals.{yearLimit}
 use Rattle.definitions.specs.Weight.{weight}
+use Rattle.layout.specs.Checks.{Whole}
 use Rattle.chain.specs.Filled.{Filled}
 
 -- element k of an array of naturals

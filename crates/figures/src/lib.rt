@@ -1,11 +1,11 @@
 // The figures of an accepted file, each computed once: weights, logarithms, own weights, the precision matrix and the
 // right-hand side. They equal the specification's.
 ghost use mathlib.Core.Path.{_≡_};
-ghost use Rattle.chain.specs.Arrays.{figuresAt, figuresOf};
 ghost use Rattle.definitions.specs.Layout.{lastYear, closeness};
-ghost use Rattle.figures.specs.Reading.{PriorMeans};
 ghost use Rattle.definitions.specs.Matrix.{figuresOf as figuresOfFile};
 ghost use Rattle.laws.specs.Accepted.{AcceptedFile};
+ghost use Rattle.chain.specs.Arrays.{figuresAt, figuresOf};
+ghost use Rattle.figures.specs.Reading.{PriorMeans};
 use crate::matrix::fill_matrix;
 use crate::reading::column_weights;
 use crate::reading::logarithms;

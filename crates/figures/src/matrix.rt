@@ -1,9 +1,9 @@
 // The precision matrix, flat: row k, column l at 31·k + l, filled from the own weights and the sums of g.
 ghost use mathlib.Core.Path.{_≡_};
 ghost use Prim.Native.Nat.{_*_, min};
-ghost use Rattle.laws.specs.Ranks.{rankOf};
 ghost use Rattle.definitions.specs.Layout.{parts};
 ghost use Rattle.definitions.specs.Matrix.{partOf};
+ghost use Rattle.laws.specs.Ranks.{rankOf};
 ghost use Rattle.figures.specs.Weights.{OfPart};
 ghost use Rattle.figures.specs.Entries.{
   OfTurned,

@@ -13,11 +13,11 @@ use Rattle.definitions.specs.Matrix.{Judgement, passed, fails, judgement, isPas
 use Rattle.definitions.specs.Machine.{Answer, judged, refused, holds, refusedOr, judgeCall}
 use Rattle.chain.specs.Arrays.{figuresOf}
 use Rattle.holding.specs.State.{Held, Fits, stateOf}
+use Rattle.holding.specs.StateLaws.{stateOf-held, stateOf-empty}
+use Rattle.holding.specs.Worth.{worth, rounded}
 use Rattle.judging.specs.declared.JudgeAnswer.{JudgeAnswer}
 use Rattle.judging.specs.declared.JudgeAnswer.the-variants.{Passed, Fails, Refused}
-use Rattle.holding.specs.StateLaws.{stateOf-held, stateOf-empty}
 use Rattle.judging.specs.Judges.{ofJudge, judgesTo, Judges}
-use Rattle.holding.specs.Worth.{worth, rounded}
 
 judged-refused : {j : Judgement} {number place : ℕ} → judged j ≡ refused number place → ⊥
 judged-refused e = let z : _≡_ {A = ℕ} 0 1 = cc in omega arith

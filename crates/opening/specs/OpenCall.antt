@@ -18,6 +18,7 @@ use Rattle.definitions.specs.Matrix.{entry}
 use Rattle.definitions.specs.Machine.{isClear, openCheck}
 use Rattle.laws.specs.Accepted.{AcceptedFile, file-clear}
 use Rattle.laws.specs.Diagonal.{number-16-never}
+use Rattle.laws.specs.Tables.{tab-cong}
 use Rattle.layout.specs.declared.checks.Check.{Check}
 use Rattle.layout.specs.Checks.{told}
 use Rattle.layout.specs.CheckLaws.{fields-clear}
@@ -25,12 +26,11 @@ use Rattle.chain.specs.declared.arrays.Figures.{Figures}
 use Rattle.chain.specs.Arrays.{figuresOf, meanOf, cell}
 use Rattle.chain.specs.Fitting.{Fitting}
 use Rattle.chain.specs.AcceptedFits.{file-fits}
-use Rattle.laws.specs.Tables.{tab-cong}
 use Rattle.figures.specs.Reading.{PriorMeans}
 use Rattle.holding.specs.State.{Held, Fits}
+use Rattle.holding.specs.Fitted.{entry-of}
 use Rattle.opening.specs.declared.OpenAnswer.the-variants.{Opened}
 use Rattle.opening.specs.Diagonal.{nonZero, DiagonalOf}
-use Rattle.holding.specs.Fitted.{entry-of}
 use Rattle.opening.specs.Opens.{Opens}
 use Rattle.opening.specs.OpenLaws.{opens-done}
 

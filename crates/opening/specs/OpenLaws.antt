@@ -9,9 +9,9 @@ use Rattle.definitions.specs.Matrix as D
 use Rattle.definitions.specs.Machine.{openCheck, openCall}
 use Rattle.chain.specs.Arrays.{figuresOf, meanOf}
 use Rattle.holding.specs.State.{Held, Fits}
+use Rattle.holding.specs.StateLaws.{stateOf-held, stateOf-empty}
 use Rattle.opening.specs.declared.OpenAnswer.{OpenAnswer}
 use Rattle.opening.specs.declared.OpenAnswer.the-variants.{Opened, Refused}
-use Rattle.holding.specs.StateLaws.{stateOf-held, stateOf-empty}
 use Rattle.opening.specs.Opens.{Opens}
 
 opened-refused : {number place : ℕ} → _≡_ {A = OpenAnswer} Opened (Refused number place) → ⊥

@@ -2,12 +2,12 @@
 ghost use mathlib.Core.Path.{_≡_};
 ghost use Rattle.definitions.specs.Machine.{State};
 ghost use Rattle.holding.specs.State.{stateOf};
-ghost use Rattle.judging.specs.Judges.{Judges};
 ghost use Rattle.opening.specs.Opens.{Opens};
-ghost use Rattle.session.specs.Value.{heldBy};
-ghost use Rattle.showing.specs.Shows.{Shows};
+ghost use Rattle.judging.specs.Judges.{Judges};
 ghost use Rattle.sweeping.specs.Sweeps.{Sweeps};
 ghost use Rattle.writing.specs.Writes.{Reads, Pages};
+ghost use Rattle.showing.specs.Shows.{Shows};
+ghost use Rattle.session.specs.Value.{heldBy};
 use crate::Session;
 use crate::answers::JudgeAnswer;
 use crate::answers::Opening;

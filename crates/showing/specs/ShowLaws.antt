@@ -17,9 +17,9 @@ use Rattle.laws.specs.Accepted.{accepted-file}
 use Rattle.laws.specs.Tables.{tab-at}
 use Rattle.chain.specs.Arrays.{figuresAt, figuresOf}
 use Rattle.holding.specs.State.{Held, Fits, decFits, stateOf}
+use Rattle.holding.specs.StateLaws.{stateOf-held, stateOf-empty}
 use Rattle.showing.specs.declared.FiguresAnswer.the-variants.{Shown}
 use Rattle.showing.specs.declared.Showing.{Showing}
-use Rattle.holding.specs.StateLaws.{stateOf-held, stateOf-empty}
 use Rattle.showing.specs.Shows.{inArrays, showsTo, FiguresOf, Shows}
 use Rattle.showing.specs.Shown.{ownShown, rightHandShown, entryShown, matrixShown}
 use Rattle.showing.specs.Mirrored.{row-of}

@@ -2,8 +2,8 @@
 // parts 0..2J, `count` of them: what is shown has both halves of the matrix, and zeros behind the parts. Where nothing is open
 // `count` is 0, and so is every number.
 ghost use mathlib.Core.Path.{_≡_};
-ghost use Rattle.showing.specs.ShowCall.{OfRow, OfMatrix, RowShown, MatrixShown, Zeros, PartsShown, answerShown, closenessShown};
 ghost use Rattle.holding.specs.State.{heldAt};
+ghost use Rattle.showing.specs.ShowCall.{OfRow, OfMatrix, RowShown, MatrixShown, Zeros, PartsShown, answerShown, closenessShown};
 ghost use Rattle.showing.specs.Shown.{OfParts, ownShown, rightHandShown};
 use crate::FiguresAnswer;
 use chain::residues::entry_fits;

@@ -18,10 +18,10 @@ use Rattle.definitions.specs.Matrix.{residue, entry}
 use Rattle.definitions.specs.Sweep.{bringBack, change, step}
 use Rattle.laws.specs.Tables.{tabFrom-length, tab-at, tab-cong}
 use Rattle.laws.specs.StepLaws.{sum-set}
-use Rattle.steps.specs.declared.Working.{Working}
 use Rattle.chain.specs.Arrays.{meanOf, cell, system, rowProduct}
-use Rattle.steps.specs.Working.{heldRightHand, held}
 use Rattle.chain.specs.Sizes.{mean-at, entry-at, residue-at}
+use Rattle.steps.specs.declared.Working.{Working}
+use Rattle.steps.specs.Working.{heldRightHand, held}
 
 -- a part of a mean is set in its array
 pub mean-set : (last : ℕ) (v : List ℤ) → parts last ≤ length v → (k : ℕ) → k < parts last → (z : ℤ)

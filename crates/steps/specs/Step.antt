@@ -8,10 +8,10 @@ use Rattle.definitions.specs.Words.{part}
 use Rattle.definitions.specs.Layout.{parts}
 use Rattle.definitions.specs.Refusals.{yearLimit, partLimit}
 use Rattle.definitions.specs.Sweep.{step}
-use Rattle.steps.specs.declared.Working.{Working}
 use Rattle.chain.specs.Arrays.{meanOf, cell}
-use Rattle.steps.specs.Working.{held}
 use Rattle.chain.specs.Fitting.{Fitting, Inside, diagonalLimit}
+use Rattle.steps.specs.declared.Working.{Working}
+use Rattle.steps.specs.Working.{held}
 
 -- ---- residues v of which part k of the mean changes by d
 

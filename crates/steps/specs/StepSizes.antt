@@ -15,12 +15,12 @@ use Rattle.definitions.specs.Words.{part}
 use Rattle.definitions.specs.Layout.{parts}
 use Rattle.definitions.specs.Refusals.{partLimit}
 use Rattle.laws.specs.StepLaws.{bringBack-inside}
-use Rattle.steps.specs.declared.Working.{Working}
 use Rattle.chain.specs.Arrays.{meanOf, cell, system}
-use Rattle.steps.specs.Working.{heldRightHand, held}
 use Rattle.chain.specs.Fitting.{Fitting, Inside, diagonalLimit, residueLimit}
-use Rattle.steps.specs.Held.{held-difference, moved, stepped, step-is, mean-set, followed-is, held-same, dividend, meanAfter}
 use Rattle.chain.specs.Sizes.{diagonal-from, diagonal-fits, cell-fits, residue-fits}
+use Rattle.steps.specs.declared.Working.{Working}
+use Rattle.steps.specs.Working.{heldRightHand, held}
+use Rattle.steps.specs.Held.{held-difference, moved, stepped, step-is, mean-set, followed-is, held-same, dividend, meanAfter}
 use Rattle.steps.specs.Step.{Follows, Followed, Steps, Stepped}
 
 -- |z| is at most one more than `mag z`, and `mag z` at most |z|

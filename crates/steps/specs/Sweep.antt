@@ -7,10 +7,10 @@ use lib.IntN.{ℤ}
 use Rattle.definitions.specs.Layout.{parts}
 use Rattle.definitions.specs.Refusals.{yearLimit}
 use Rattle.definitions.specs.Sweep.{step, sweepFrom, oneSweep}
-use Rattle.steps.specs.declared.Working.{Working}
 use Rattle.chain.specs.Arrays.{meanOf}
-use Rattle.steps.specs.Working.{held}
 use Rattle.chain.specs.Fitting.{Fitting, Inside}
+use Rattle.steps.specs.declared.Working.{Working}
+use Rattle.steps.specs.Working.{held}
 use Rattle.steps.specs.Step.{Steps, Stepped}
 
 -- a working mean whose system fits

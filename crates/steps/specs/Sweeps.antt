@@ -14,16 +14,16 @@ use Rattle.definitions.specs.Matrix as D
 use Rattle.definitions.specs.Matrix.{residue, isPassed, passes}
 use Rattle.definitions.specs.Sweep as S
 use Rattle.definitions.specs.Sweep.{step, change, sweepFrom, oneSweep, sweeps, sweepLimit}
-use Rattle.chain.specs.declared.arrays.Figures.{Figures}
-use Rattle.steps.specs.declared.Working.{Working}
-use Rattle.steps.specs.declared.sweep.Swept.{Swept}
-use Rattle.chain.specs.Arrays.{meanOf, system, figuresOf, systemOf, rowProduct}
-use Rattle.steps.specs.Working.{held}
-use Rattle.chain.specs.Fitting.{Fitting, Inside}
 use Rattle.laws.specs.Tables.{tab-cong}
-use Rattle.steps.specs.Held.{held-residue}
+use Rattle.chain.specs.declared.arrays.Figures.{Figures}
+use Rattle.chain.specs.Arrays.{meanOf, system, figuresOf, systemOf, rowProduct}
+use Rattle.chain.specs.Fitting.{Fitting, Inside}
 use Rattle.chain.specs.Judge.{test-is-judgement, residues-are, PassesIn, ResiduesIn}
 use Rattle.chain.specs.Sizes.{mean-at, residue-at, residue-same, system-fits}
+use Rattle.steps.specs.declared.Working.{Working}
+use Rattle.steps.specs.declared.sweep.Swept.{Swept}
+use Rattle.steps.specs.Working.{held}
+use Rattle.steps.specs.Held.{held-residue}
 use Rattle.steps.specs.Sweep.{OfSystem, OneSwept}
 
 abbrev pub meanIn : Figures → Working → List ℤ

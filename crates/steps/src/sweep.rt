@@ -1,6 +1,6 @@
 // One sweep, and the sweeps of a call.
-ghost use Rattle.steps.specs.Sweep.{OfSystem, OneSwept, OfParts, SweptFrom};
 ghost use Rattle.chain.specs.Arrays.{figuresAt};
+ghost use Rattle.steps.specs.Sweep.{OfSystem, OneSwept, OfParts, SweptFrom};
 ghost use Rattle.steps.specs.Sweeps.{Sweeps, SweptTo};
 use crate::Working;
 use crate::step::step_in;

@@ -10,14 +10,14 @@ use Rattle.definitions.specs.Matrix.{passes}
 use Rattle.definitions.specs.Sweep.{sweeps, sweepLimit}
 use Rattle.laws.specs.MachineLaws.{sweeps-total}
 use Rattle.layout.specs.CheckLaws.{within-yes}
-use Rattle.steps.specs.declared.Working.{Working}
-use Rattle.steps.specs.declared.sweep.Swept.{Swept}
 use Rattle.chain.specs.Arrays.{figuresOf, meanOf}
 use Rattle.chain.specs.Judge.{Passes}
+use Rattle.steps.specs.declared.Working.{Working}
+use Rattle.steps.specs.declared.sweep.Swept.{Swept}
 use Rattle.steps.specs.Sweeps.{Holds, SweptTo, passes-is}
 use Rattle.holding.specs.State.{Held, Fits}
-use Rattle.sweeping.specs.declared.SweepAnswer.the-variants.{Settled, Going, Refused}
 use Rattle.holding.specs.StateLaws.{stateOf-held}
+use Rattle.sweeping.specs.declared.SweepAnswer.the-variants.{Settled, Going, Refused}
 use Rattle.sweeping.specs.Sweeps.{Sweeps}
 use Rattle.sweeping.specs.SweepLaws.{sweeps-settled, sweeps-spent, sweeps-done, sweeps-going}
 

@@ -14,11 +14,11 @@ use Rattle.definitions.specs.Sweep.{Swept, sweeps, sweepLimit}
 use Rattle.definitions.specs.Machine.{Answer, settled, going, refused, State, holds, Outcome, answers, sweepCall, sweptTo}
 use Rattle.chain.specs.Arrays.{figuresOf, meanOf}
 use Rattle.holding.specs.State.{Held, Fits, stateHeld, stateOf}
+use Rattle.holding.specs.StateLaws.{stateOf-held, stateOf-empty}
+use Rattle.holding.specs.Worth.{worth, rounded}
 use Rattle.sweeping.specs.declared.SweepAnswer.{SweepAnswer}
 use Rattle.sweeping.specs.declared.SweepAnswer.the-variants.{Settled, Going, Refused}
-use Rattle.holding.specs.StateLaws.{stateOf-held, stateOf-empty}
 use Rattle.sweeping.specs.Sweeps.{ofSweep, sweepsTo, Sweeps}
-use Rattle.holding.specs.Worth.{worth, rounded}
 
 refused-settled : {number place total : ℕ} → refused number place ≡ settled total → ⊥
 refused-settled e = let z : _≡_ {A = ℕ} 0 1 = cc in omega arith

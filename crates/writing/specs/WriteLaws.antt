@@ -17,11 +17,11 @@ use Rattle.layout.specs.declared.checks.Check.{Check}
 use Rattle.layout.specs.declared.checks.Check.the-variants.{Clear, Refuses}
 use Rattle.chain.specs.Arrays.{figuresOf, meanOf}
 use Rattle.holding.specs.State.{Held, Fits, stateHeld, stateOf}
+use Rattle.holding.specs.StateLaws.{stateOf-held, stateOf-empty}
+use Rattle.holding.specs.Worth.{worth}
 use Rattle.writing.specs.declared.WriteAnswer.{WriteAnswer}
 use Rattle.writing.specs.declared.WriteAnswer.the-variants.{Written, Refused}
-use Rattle.holding.specs.StateLaws.{stateOf-held, stateOf-empty}
 use Rattle.writing.specs.Writes.{ofWrite, Text, writesTo, Writes}
-use Rattle.holding.specs.Worth.{worth}
 
 pub refused-written : {number place : ℕ} → refused number place ≡ written → ⊥
 refused-written e = let z : _≡_ {A = ℕ} 0 1 = cc in omega arith

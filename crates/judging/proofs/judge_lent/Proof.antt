@@ -12,13 +12,13 @@ use Rattle.definitions.specs.Layout as D
 use Rattle.definitions.specs.Matrix.{Judgement, judgement}
 use Rattle.layout.specs.Checks.{told}
 use Rattle.layout.specs.CheckLaws.{passed}
+use Rattle.records.specs.Parse.{padded}
 use Rattle.chain.specs.Arrays.{figuresOf}
 use Rattle.chain.specs.Decides.{not-yes, not-no}
 use Rattle.chain.specs.Judge.{judgementOf, own-fits, judged}
-use Rattle.records.specs.Parse.{padded}
 use Rattle.holding.specs.State.{Held, Fits, heldAt}
-use Rattle.judging.specs.JudgeLaws.{judges-closed, judges-refused, judges-passed, judges-fails}
 use Rattle.holding.specs.Fitted.{Framed, asks-residues, held-inside, fits, frame, rows}
+use Rattle.judging.specs.JudgeLaws.{judges-closed, judges-refused, judges-passed, judges-fails}
 use Rattle.judging.specs.MeanOfRecord.{mean-inside, mean-is}
 use Rattle.judging.proofs.judge_lent.Statement.{statement}
 use Rattle.judging.proofs.judge_lent.Tie as tie

@@ -10,8 +10,8 @@ use Rattle.definitions.specs.Layout.{parts, partAt, signed}
 use Rattle.definitions.specs.Matrix.{partOf}
 use Rattle.definitions.specs.Text.{lines}
 use Rattle.definitions.specs.Programs.{partLine}
-use Rattle.fields.specs.Fields.{signed-read, signed-outside}
 use Rattle.laws.specs.Lines.{lines-next}
+use Rattle.fields.specs.Fields.{signed-read, signed-outside}
 use Rattle.text.specs.Added.{Added, both, in-words, nothing}
 use Rattle.listing.proofs.put_parts.Statement.{statement}
 use Rattle.listing.proofs.put_parts.Tie as tie

@@ -7,8 +7,8 @@ use Rattle.layout.specs.CheckLaws.{within-low, within-high}
 use Rattle.chain.specs.Decides.{not-yes, not-no}
 use Rattle.steps.specs.Sweeps.{started}
 use Rattle.holding.specs.State.{Held, Fits, heldAt}
-use Rattle.sweeping.specs.SweepLaws.{sweeps-closed, sweeps-outside}
 use Rattle.holding.specs.Fitted.{Framed, asks-residues, held-inside, fits, frame, rows}
+use Rattle.sweeping.specs.SweepLaws.{sweeps-closed, sweeps-outside}
 use Rattle.sweeping.proofs.sweep_lent.Statement.{statement}
 use Rattle.sweeping.proofs.sweep_lent.Tie as tie
 

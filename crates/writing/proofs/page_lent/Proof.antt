@@ -16,10 +16,10 @@ use Rattle.laws.specs.Tables.{tab-at}
 use Rattle.laws.specs.Pages.{page-cong}
 use Rattle.chain.specs.Arrays.{figuresOf, meanOf}
 use Rattle.holding.specs.State.{Held, Fits, heldAt}
+use Rattle.holding.specs.Fitted.{frame}
 use Rattle.writing.specs.declared.WriteAnswer.the-variants.{Written}
 use Rattle.writing.specs.Writes.{Pages}
 use Rattle.writing.specs.WriteLaws.{writes-short, writes-written}
-use Rattle.holding.specs.Fitted.{frame}
 use Rattle.writing.proofs.page_lent.Statement.{statement}
 use Rattle.writing.proofs.page_lent.Tie as tie
 

@@ -12,13 +12,13 @@ use Rattle.definitions.specs.Layout.{parts, recordLength}
 use Rattle.definitions.specs.Matrix.{passes}
 use Rattle.definitions.specs.Machine.{recordIn}
 use Rattle.laws.specs.Tables.{tab-at}
-use Rattle.chain.specs.Arrays.{figuresOf, meanOf}
 use Rattle.records.specs.Records.{record-cong}
+use Rattle.chain.specs.Arrays.{figuresOf, meanOf}
 use Rattle.holding.specs.State.{Held, Fits, heldAt}
+use Rattle.holding.specs.Fitted.{frame}
 use Rattle.writing.specs.declared.WriteAnswer.the-variants.{Written}
 use Rattle.writing.specs.Writes.{Reads}
 use Rattle.writing.specs.WriteLaws.{writes-short, writes-written}
-use Rattle.holding.specs.Fitted.{frame}
 use Rattle.writing.proofs.read_lent.Statement.{statement}
 use Rattle.writing.proofs.read_lent.Tie as tie
 

@@ -3,9 +3,9 @@ use Prim.Native.Nat.{_-_, _≤_, _<_}
 use mathlib.Core.Path.{ap, _∙_}
 use native.Mathlib.Omega.{arith}
 use denote.Ref.{now}
-use Rattle.chain.specs.Filled.{Filled, filled-none, filled-next, filled-to}
 use Rattle.definitions.specs.Layout.{lastYear, parts, varianceOf}
 use Rattle.definitions.specs.Weight.{weight}
+use Rattle.chain.specs.Filled.{Filled, filled-none, filled-next, filled-to}
 use Rattle.figures.proofs.reading.column_weights.Statement.{statement}
 use Rattle.figures.proofs.reading.column_weights.Tie as tie
 

@@ -4,8 +4,8 @@ use mathlib.Core.Path.{_∙_}
 use native.Mathlib.Omega.{arith}
 use lib.IntN.{pos}
 use denote.Ref.{now}
-use Rattle.chain.specs.Filled.{Filled, filled-none, filled-next, filled-to}
 use Rattle.definitions.specs.Layout.{lastYear, parts, priorMean}
+use Rattle.chain.specs.Filled.{Filled, filled-none, filled-next, filled-to}
 use Rattle.chain.specs.Bits.{same}
 use Rattle.figures.proofs.reading.prior_means.Statement.{statement}
 use Rattle.figures.proofs.reading.prior_means.Tie as tie

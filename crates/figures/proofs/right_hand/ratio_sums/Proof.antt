@@ -10,11 +10,10 @@ use mir.Syntax.{w64}
 use mir.Val.{toZ}
 use Rattle.integers.specs.Size.{fits, kept}
 use Rattle.integers.specs.Sum.{sum, sum-next}
+use Rattle.integers.specs.Size.{natAbs-*-≤}
 use Rattle.definitions.specs.Words.{part}
 use Rattle.definitions.specs.Layout.{cells}
 use Rattle.chain.specs.Bits.{stored, read}
-use mir.Facts.{toZ-pos}
-use Rattle.integers.specs.Size.{natAbs-*-≤}
 use Rattle.figures.specs.Reading.{cells-few}
 use Rattle.figures.specs.Weights
 use Rattle.figures.specs.Weights.{Summed}
@@ -23,6 +22,7 @@ use Rattle.figures.specs.Sums.{lastCell, ratioOf}
 use Rattle.figures.specs.SumLaws.{lastCell-first, lastCell-next, lastCell-below, difference-small, sum-small}
 use Rattle.figures.proofs.right_hand.ratio_sums.Statement.{statement}
 use Rattle.figures.proofs.right_hand.ratio_sums.Tie as tie
+use mir.Facts.{toZ-pos}
 
 abbrev Inv-loop : tie.InvT-loop
 Inv-loop weights logs last years cells sums₀ total₀ at₀ d₀ sums total at d =

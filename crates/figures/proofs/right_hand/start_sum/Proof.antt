@@ -12,8 +12,8 @@ use Rattle.integers.specs.Size.{fits, kept}
 use Rattle.integers.specs.Sum.{sum, sum-zero, sum-next}
 use Rattle.definitions.specs.Words.{part}
 use Rattle.definitions.specs.Layout.{cells, rowStart}
-use Rattle.chain.specs.Bits.{stored, read}
 use Rattle.laws.specs.Accepted.{cell-below}
+use Rattle.chain.specs.Bits.{stored, read}
 use Rattle.figures.specs.Reading.{cells-few}
 use Rattle.figures.specs.Sums.{startSum}
 use Rattle.figures.specs.SumLaws.{rowStart-none, rowStart-next, sum-small}

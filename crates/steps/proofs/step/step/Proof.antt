@@ -17,9 +17,9 @@ use Rattle.integers.specs.Size.{fits, kept}
 use Rattle.definitions.specs.Words.{part}
 use Rattle.definitions.specs.Layout.{parts}
 use Rattle.definitions.specs.Sweep.{bringBack}
-use Rattle.steps.specs.declared.Working.{Working}
 use Rattle.chain.specs.Arrays.{cell, cell-at}
 use Rattle.chain.specs.Bits.{stored, read}
+use Rattle.steps.specs.declared.Working.{Working}
 use Rattle.steps.specs.Held.{moved, stepped, dividend}
 use Rattle.steps.specs.Step.{Steps}
 use Rattle.steps.specs.StepSizes.{index-below, parts-below, diagonal-small, diagonal-positive, residue-small, half-small, dividend-small, quotient-small}
