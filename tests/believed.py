@@ -21,6 +21,8 @@ from documents import blocks, sentences
 from resolving import Named, resolved
 
 SESSION = "session"
+PUBLIC_FUNCTION = r'^ *pub (?:extern "C" )?fn (\w+)'
+PASSED_ON = r"^pub use (\w+)(?:::\w+)+;$"
 PROGRAMS = [("crates/listing/src/main.rt", "list"), ("crates/board_page/src/main.rt", "board")]
 DOCUMENT = "docs/CLAIMS.md"
 LIST = "## What must be believed besides"
@@ -34,20 +36,31 @@ Function = tuple[str, str]  # the file and the name
 
 
 def public_files(crate: str) -> list[str]:
-    """The files of a crate's public modules."""
-    folder = f"crates/{crate}/src"
-    return [f"{folder}/{module}.rt" for module in ("lib", *re.findall(r"^pub mod (\w+);", text_of(f"{folder}/lib.rt"), re.MULTILINE))]
+    """The files of a crate's public modules, of those inside others too."""
+    found, waiting = [], [f"crates/{crate}/src/lib.rt"]
+    while waiting:
+        path = waiting.pop(0)
+        found.append(path)
+        folder = path.removesuffix("/lib.rt").removesuffix("/mod.rt").removesuffix(".rt")
+        for module in re.findall(r"^ *pub mod (\w+);", text_of(path), re.MULTILINE):
+            waiting += [name for name in (f"{folder}/{module}.rt", f"{folder}/{module}/mod.rt") if name in files()]
+    return found
+
+
+def border_crates() -> list[str]:
+    """The session, and every crate of which one of these passes on an item."""
+    found = [SESSION]
+    for crate in found:
+        passed_on = (other for path in public_files(crate) for other in re.findall(PASSED_ON, text_of(path), re.MULTILINE))
+        found += [other for other in dict.fromkeys(passed_on) if other in crates() and other not in found]
+    return found
 
 
 def border() -> list[Function]:
     table = re.findall(r"^\| `(\w+)::(\w+)::(\w+)` \|", text_of("docs/SPECIFICATION.md"), re.MULTILINE)
     found = [(f"crates/{crate}/src/{module}.rt", name) for crate, module, name in table]
-    passed_on = (crate for path in public_files(SESSION) for crate in re.findall(r"^pub use (\w+)::", text_of(path), re.MULTILINE))
-    for crate in dict.fromkeys([SESSION, *passed_on]):
-        for path in public_files(crate):
-            found += [(path, name) for name in re.findall(r"^pub fn (\w+)", text_of(path), re.MULTILINE)]
-    for path in files_of("desk", "src/", ".rt"):
-        found += [(path, name) for name in re.findall(r'^pub extern "C" fn (\w+)', text_of(path), re.MULTILINE)]
+    for path in [path for crate in border_crates() for path in public_files(crate)] + files_of("desk", "src/", ".rt"):
+        found += [(path, name) for name in re.findall(PUBLIC_FUNCTION, text_of(path), re.MULTILINE)]
     return list(dict.fromkeys([*found, *PROGRAMS]))
 
 
@@ -86,7 +99,7 @@ def modules_of_contract(function: Function) -> set[str]:
 
 
 def file_of(module: str) -> str | None:
-    """`Rattle.session.specs.State`, inside the crate `Rattle.session.specs.State`; None for the kit's and for types of Rattle."""
+    """`Rattle.holding.specs.State`, inside the crate `Rattle.holding.specs.State`; None for the kit's and for types of Rattle."""
     found = re.fullmatch(r"Rattle·(\w+)(?:·specs)?\.specs\.(\w+)", module)
     return f"crates/{found[1]}/specs/{found[2]}.antt" if found and found[1] in crates() else None
 
@@ -141,6 +154,10 @@ def covers(entry: str, path: str) -> bool:
 
 
 def complaints() -> Iterator[str]:
+    for path in (path for crate in border_crates() for path in public_files(crate)):
+        unread = re.sub(PASSED_ON, lambda found: "" if found[1] in crates() else found[0], text_of(path), flags=re.MULTILINE)
+        lines = re.findall(r"^.*\bpub use\b.*", unread, re.MULTILINE)
+        yield from (f"{path}: {line.strip()}: what it passes on is not followed" for line in lines)
     for path, name in border():
         yield from (f"{path}: {name}, which can be called from outside, {said}" for said in of_contract((path, name)))
     through, lost = reached()

@@ -1,10 +1,9 @@
 -- What C's callers can count on, in plain numbers, each drawn from the contract of a call alone.
 use Prim.Native.Nat.{ℕ, _+_, _*_, _≤_, _<_}
 use mathlib.Core.Path.{_≡_, refl, ap, _∙_}
-use mathlib.Core.Logic.{_≢_}
+use mathlib.Core.Logic.{_≢_, _↔_}
 use mathlib.Core.Bool.{true}
 use mathlib.Core.List.{List, _++_}
-use native.Mathlib.Omega.{arith}
 use borrow.Author.Tests.{lt-ltb, le-ltb}
 use lib.IntN.{ℤ, pos}
 use lib.ListN.{length, getD, take, drop, replicate}
@@ -12,8 +11,8 @@ use Rattle.definitions.specs.Words.{within, part}
 use Rattle.definitions.specs.Layout.{Bytes, lastYear, closeness, meanOf, recordOf}
 use Rattle.definitions.specs.Refusals.{clear, refuses, rowCheck, recordCheck}
 use Rattle.definitions.specs.Observations.{chainOf}
-use Rattle.definitions.specs.Matrix.{fails, passes, Figures, entry, own, matrix, rightHand}
-use Rattle.definitions.specs.Machine.{refused, judged, empty, holds, rowPart, writeCall}
+use Rattle.definitions.specs.Matrix.{passes, Figures, entry, own, matrix, rightHand}
+use Rattle.definitions.specs.Machine.{refused, empty, holds, rowPart, writeCall}
 use Rattle.definitions.specs.Page.{pageOf}
 use Rattle.laws.specs.Tables.{tab-at}
 use Rattle.laws.specs.Pinned.{Worth, worth, Near, rounded}
@@ -39,41 +38,41 @@ refusal number place = record { number = number; place = place }
 -- what C gets and what is left, by the machine's outcome; a call that is refused leaves the session as it was
 module _ (s t : Held) where
   module _ (file : Bytes) (r : Refusal) (call : Opens s file r t) where
-    pub open-told : opensTo (stateOf s) file .answer ≡ refused 9 86 → r ≡ refusal 9 86
-    open-told e = call .told ∙ ap refusalTold e
+    pub open-told : r ≡ refusalTold (opensTo (stateOf s) file .answer)
+    open-told = call .told
 
     pub open-state : stateOf t ≡ opensTo (stateOf s) file .state
     open-state = call .state
 
-    pub open-refused : r .number ≡ 9 → t ≡ s
-    open-refused e = call .same (λ none. omega arith)
+    pub open-refused : r .number ≢ 0 → t ≡ s
+    open-refused = call .same
 
-    pub open-done : opensTo (stateOf s) file .answer ≢ refused 0 0
-    open-done = call .numbered 0
+    pub open-numbered : (place : ℕ) → opensTo (stateOf s) file .answer ≢ refused 0 place
+    open-numbered = call .numbered
 
   module _ (n : ℕ) (r : Swept) (call : Sweeps s n r t) where
-    pub sweep-told : sweepsTo (stateOf s) n .answer ≡ refused 23 0 → r ≡ record { refusal = refusal 23 0; settled = 0; total = 0 }
-    sweep-told e = call .told ∙ ap sweepTold e
+    pub sweep-told : r ≡ sweepTold (sweepsTo (stateOf s) n .answer)
+    sweep-told = call .told
 
     pub sweep-state : stateOf t ≡ sweepsTo (stateOf s) n .state
     sweep-state = call .state
 
-    pub sweep-refused : r .refusal .number ≡ 23 → t ≡ s
-    sweep-refused e = call .same (λ none. omega arith)
+    pub sweep-refused : r .refusal .number ≢ 0 → t ≡ s
+    sweep-refused = call .same
 
-    pub sweep-done : sweepsTo (stateOf s) n .answer ≢ refused 0 0
-    sweep-done = call .numbered 0
+    pub sweep-numbered : (place : ℕ) → sweepsTo (stateOf s) n .answer ≢ refused 0 place
+    sweep-numbered = call .numbered
 
   pub closed : (held : List ℕ) → Closes held → (own : List ℕ) (A b μ : List ℤ) → stateOf (heldIn held own A b μ) ≡ empty
   closed held call = call
 
 module _ (s : Held) (lent : Bytes) where
   module _ (r : Judged) (call : Judges s lent r) where
-    pub judge-told : judgesTo (stateOf s) lent ≡ judged (fails 2) → r ≡ record { refusal = refusal 0 0; passed = 0; part = 2 }
-    judge-told e = call .told ∙ ap judgeTold e
+    pub judge-told : r ≡ judgeTold (judgesTo (stateOf s) lent)
+    judge-told = call .told
 
-    pub judge-done : judgesTo (stateOf s) lent ≢ refused 0 0
-    judge-done = call .numbered 0
+    pub judge-numbered : (place : ℕ) → judgesTo (stateOf s) lent ≢ refused 0 place
+    judge-numbered = call .numbered
 
   module _ (size : ℕ → ℕ) (text : Text) (r : Refusal) (after : Bytes) (call : Writes size text s lent r after) where
     pub write-told : r ≡ refusalTold (writesTo size text (stateOf s) lent .answer)
@@ -82,8 +81,8 @@ module _ (s : Held) (lent : Bytes) where
     pub write-buffer : after ≡ writesTo size text (stateOf s) lent .buffer
     write-buffer = call .buffer
 
-    pub write-done : writesTo size text (stateOf s) lent .answer ≢ refused 0 0
-    write-done = call .numbered 0
+    pub write-numbered : (place : ℕ) → writesTo size text (stateOf s) lent .answer ≢ refused 0 place
+    write-numbered = call .numbered
 
   pub page-closed : (r : Refusal) (after : Bytes) → Pages s lent r after → stateOf s ≡ empty → (r ≡ refusal 21 0) × (after ≡ lent)
   unfolding writeCall
@@ -122,8 +121,8 @@ module _ (s : Held) (r : System) (call : Shows s r) where
   unfolding showsTo
   none-shown none = call .told ∙ ap (λ st. systemTold (showsTo st)) none
 
-  pub figures-done : showsTo (stateOf s) .answer ≢ Refused 0 0
-  figures-done = call .numbered 0
+  pub figures-numbered : (place : ℕ) → showsTo (stateOf s) .answer ≢ Refused 0 place
+  figures-numbered = call .numbered
 
   module _ (F : Figures) (μ : List ℤ) (count : ℕ) (some : stateOf s ≡ holds F μ count) where
     e : r ≡ systemTold (showsTo (holds F μ count))
@@ -162,8 +161,8 @@ module _ (s : Held) (r : System) (call : Shows s r) where
     right-hand-of-file = call .of-file f μ count open-file .1 .right-hand
 
 module _ (file : Bytes) (channel year : ℕ) (r : RowShown) (call : ShowsRow file channel year r) where
-  pub row-told : rowCheck file channel year ≡ refuses 15 0 → r ≡ record { refusal = refusal 15 0; start = 0; length = 0 }
-  row-told e = call .told ∙ ap (rowTold (lastYear file) channel year) e
+  pub row-told : r ≡ rowTold (lastYear file) channel year (rowCheck file channel year)
+  row-told = call .told
 
   pub row-shows : take (r .length) (drop (r .start) file) ≡ rowPart file channel year
   row-shows = call .shows
@@ -171,11 +170,11 @@ module _ (file : Bytes) (channel year : ℕ) (r : RowShown) (call : ShowsRow fil
   pub row-inside : r .start + r .length ≤ length file
   row-inside = call .inside
 
-  pub row-empty : r .refusal .number ≡ 15 → r .length ≡ 0
-  row-empty e = call .empty-refused .1 (λ none. omega arith)
+  pub row-empty : (r .length ≡ 0) ↔ (r .refusal .number ≢ 0)
+  row-empty = call .empty-refused
 
-  pub row-done : rowCheck file channel year ≢ refuses 0 0
-  row-done = call .numbered 0
+  pub row-numbered : (place : ℕ) → rowCheck file channel year ≢ refuses 0 place
+  row-numbered = call .numbered
 
 module _ (f : Bytes) (s : Held) (μ : List ℤ) (count : ℕ) (open-file : HoldsFile s f μ count) where
   module _ (mean : Bytes) (r : Judged) (call : Judges s mean r) where

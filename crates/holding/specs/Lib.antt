@@ -5,3 +5,4 @@ pub mod Bounds
 pub mod Fitted
 pub mod Reached
 pub mod Worth
+pub mod Pinned

@@ -5,9 +5,9 @@
 -- that call speaks of.
 use Prim.Native.Nat.{ℕ, _+_, _*_, _^_, _≤_, _<_}
 use mathlib.Core.Path.{_≡_, refl, sym, ap, _∙_}
-use mathlib.Core.Logic.{_≢_}
+use mathlib.Core.Logic.{_≢_, _↔_}
 use mathlib.Core.Bool.{true}
-use mathlib.Core.List.{[]}
+use mathlib.Core.List.{List, [], map}
 use native.Mathlib.Nat.{le-of-eq}
 use lib.IntN.{ℤ, pos, natAbs, _+ℤ_, _-ℤ_, _*ℤ_}
 use lib.Signed.{_≤ℤ_, _<ℤ_}
@@ -17,16 +17,17 @@ use Rattle.definitions.specs.Page.{pageLength}
 use Rattle.definitions.specs.Logarithm.{logarithm}
 use Rattle.definitions.specs.Loss.{Vector, loss, lossTimes}
 use Rattle.definitions.specs.Observations.{chainOf}
-use Rattle.definitions.specs.Refusals.{rowCheck}
+use Rattle.definitions.specs.Refusals.{clear, rowCheck}
 use Rattle.definitions.specs.Matrix.{own, residueTimes, Figures, figuresOf, passes}
-use Rattle.definitions.specs.Machine.{accepted, State, empty, open-file, judge, sweep, read, page, row, row-told, close}
+use Rattle.definitions.specs.Machine.{accepted, State, empty, Call, outcomes, open-file, judge, sweep, read, page, row, row-told, close}
 use Rattle.definitions.specs.Machine.{closed, part-shown, row-is-shown, refusedOr, rowPart}
 use Rattle.definitions.specs.Machine.{recordIn, pageIn, openCall, judgeCall, sweepCall, readCall, pageCall, outcome, figuresMachine}
 use Rattle.definitions.specs.Guarantee.{Guarantee, Rounded}
 use Rattle.laws.specs.Demand3.{demand3}
 use Rattle.laws.specs.Judged.{passes-of-small}
 use Rattle.laws.specs.LogarithmBound.{logarithm-bound}
-use Rattle.laws.specs.MachineLaws.{write-alone}
+use Rattle.laws.specs.MachineLaws.{heldState, heldOutcome, write-alone, outcomes-on-figures}
+use Rattle.laws.specs.Rows.{empty-is-refused}
 
 module _ (f : Bytes) where
   -- of each part
@@ -134,3 +135,12 @@ module _ (st : State Figures) where
     tells = λ f channel year. refl;
     closes = refl;
   }
+
+-- ---- over lists of calls the figures answer as the file does, and an empty row is a refused one
+
+pub same-outcomes : (calls : List Call) (st : State Bytes)
+    → outcomes Figures figuresOf (λ F. F) (heldState st) calls ≡ map heldOutcome (outcomes Bytes (λ f. f) figuresOf st calls)
+same-outcomes = outcomes-on-figures
+
+pub row-empty : (f : Bytes) (channel year : ℕ) → (rowPart f channel year ≡ []) ↔ (rowCheck f channel year ≢ clear)
+row-empty = empty-is-refused

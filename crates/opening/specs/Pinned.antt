@@ -12,8 +12,8 @@ use Rattle.opening.specs.declared.OpenAnswer.the-variants.{Opened, Refus
 use Rattle.opening.specs.Opens.{opensTo, Opens}
 
 -- a call that is refused leaves the session as it was
-pub open-refused : (s t : Held) (file : Bytes) → Opens s file (Refused 9 86) t → t ≡ s
-open-refused s t file call = call .same 9 86 refl
+pub open-refused : (s t : Held) (file : Bytes) (number place : ℕ) → Opens s file (Refused number place) t → t ≡ s
+open-refused s t file number place call = call .same number place refl
 
 -- ---- what open leaves is a file that the other calls speak of
 

@@ -21,5 +21,5 @@ module _ (f : Bytes) (s t : Held) (μ ν : List ℤ) (count after : ℕ) (before
   sweep-rounded from to h = call .rounded f μ ν count after before then (within-yes refl from to) (rounded f h)
 
 -- a call that is refused leaves the session as it was
-pub sweep-refused : (s t : Held) (n : ℕ) → Sweeps s n (Refused 23 0) t → t ≡ s
-sweep-refused s t n call = call .same 23 0 refl
+pub sweep-refused : (s t : Held) (n number place : ℕ) → Sweeps s n (Refused number place) t → t ≡ s
+sweep-refused s t n number place call = call .same number place refl
