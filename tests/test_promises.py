@@ -71,7 +71,7 @@ PINNED = {
     "session/Pinned": "held-whole",
     "telling/Pinned":
         "Pinned opened-file refused-file written-mean passed-mean failing-mean refused-record settled-mean going-mean refused-sweeps "
-        "shown-row refused-row shown-system refused-system pinned",
+        "shown-row row-of-F refused-row shown-system refused-system pinned",
     "desk/Pinned":
         "open-told open-state open-refused open-numbered sweep-told sweep-state sweep-refused sweep-numbered closed judge-told "
         "judge-numbered write-told write-buffer write-numbered page-closed read-record page-written page-short none-shown "

@@ -4,7 +4,7 @@ use mathlib.Core.Path.{_≡_, refl}
 use mathlib.Core.List.{List}
 use lib.IntN.{ℤ}
 use Rattle.integers.specs.Summation.{total}
-use Rattle.definitions.specs.Layout.{rowStart}
+use Rattle.definitions.specs.Layout.{rowStart, rowAt, rowLength}
 use Rattle.definitions.specs.Refusals.{clear, refuses}
 use Rattle.definitions.specs.Matrix.{passed, fails}
 use Rattle.definitions.specs.Machine.{refused, opened, judged, settled, going, written}
@@ -29,8 +29,10 @@ pub record Pinned : Type 0 where
   pub going-mean : (n : ℕ) → sweepTold (going n) ≡ record { refusal = refusal 0 0; settled = 0; total = n }
   pub refused-sweeps : (number place : ℕ)
       → sweepTold (refused number place) ≡ record { refusal = refusal number place; settled = 0; total = 0 }
+  pub shown-row : (J channel year : ℕ)
+      → rowTold J channel year clear ≡ record { refusal = refusal 0 0; start = rowAt J channel year; length = rowLength J year }
   -- File F's incurred amounts of year 0
-  pub shown-row : rowTold 1 1 0 clear ≡ record { refusal = refusal 0 0; start = 94; length = 16 }
+  pub row-of-F : rowTold 1 1 0 clear ≡ record { refusal = refusal 0 0; start = 94; length = 16 }
   pub refused-row : (J channel year number place : ℕ)
       → rowTold J channel year (refuses number place) ≡ record { refusal = refusal number place; start = 0; length = 0 }
   pub shown-system : (J e : ℕ) (D : List ℕ) (A b : List ℤ)
@@ -51,7 +53,8 @@ pinned = record {
   settled-mean = λ n. refl;
   going-mean = λ n. refl;
   refused-sweeps = λ number place. refl;
-  shown-row = refl;
+  shown-row = λ J channel year. refl;
+  row-of-F = refl;
   refused-row = λ J channel year number place. refl;
   shown-system = λ J e D A b. refl;
   refused-system = λ number place F. refl;
