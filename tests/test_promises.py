@@ -58,7 +58,7 @@ PINNED = {
     "laws/Pinned":
         "Each Worth nearly-least near strictly-least worth Near room limits m u some exact half rounded at-the-bound near-passes "
         "logarithm-within-two-ticks Machine opens judges judges-alone sweeps reads reads-alone pages pages-alone shows "
-        "tells closes machine same-outcomes row-empty",
+        "tells closes machine same-outcomes row-empty larger-logarithm loss-around divided-fits paid-sum-fits incurred-sum-fits",
     "laws/PinnedPage": "page-bytes name-on-page index-on-page ticks-on-page weight-on-page spaces-on-page never-shared",
     "holding/Pinned": "open-file reached-open",
     "opening/Pinned": "open-refused opened-holds",

@@ -2,8 +2,8 @@
 -- weakened and still give these. Pinned are: a residue of just e·D passes; the slack is e² and not e times the sum of own weights;
 -- u is over any m ≥ 1; another vector may differ in one part alone; rounding is promised from a closeness of 256 on, up to −2^26
 -- and 2^26, and for just half a tick. So with the bound of the logarithm. And the machine's outcome of a call is what the contract of
--- that call speaks of.
-use Prim.Native.Nat.{ℕ, _+_, _*_, _^_, _≤_, _<_}
+-- that call speaks of. Last, laws that are claimed and that nothing builds on.
+use Prim.Native.Nat.{ℕ, _+_, _*_, _-_, _^_, _≤_, _<_}
 use mathlib.Core.Path.{_≡_, refl, sym, ap, _∙_}
 use mathlib.Core.Logic.{_≢_, _↔_}
 use mathlib.Core.Bool.{true}
@@ -15,19 +15,23 @@ use Rattle.integers.specs.Sum.{sum, total}
 use Rattle.definitions.specs.Layout.{Bytes, lastYear, closeness, recordLength}
 use Rattle.definitions.specs.Page.{pageLength}
 use Rattle.definitions.specs.Logarithm.{logarithm}
-use Rattle.definitions.specs.Loss.{Vector, loss, lossTimes}
-use Rattle.definitions.specs.Observations.{chainOf}
+use Rattle.definitions.specs.Loss.{Vector, weighted, ratio, loss, lossTimes}
+use Rattle.definitions.specs.Observations.{Chain, chainOf, paidStep, incurredStep}
 use Rattle.definitions.specs.Refusals.{clear, rowCheck}
-use Rattle.definitions.specs.Matrix.{own, residueTimes, Figures, figuresOf, passes}
+use Rattle.definitions.specs.Matrix.{own, matrix, residueTimes, Figures, figuresOf, passes}
 use Rattle.definitions.specs.Machine.{accepted, State, empty, Call, outcomes, open-file, judge, sweep, read, page, row, row-told, close}
 use Rattle.definitions.specs.Machine.{closed, part-shown, row-is-shown, refusedOr, rowPart}
 use Rattle.definitions.specs.Machine.{recordIn, pageIn, openCall, judgeCall, sweepCall, readCall, pageCall, outcome, figuresMachine}
 use Rattle.definitions.specs.Guarantee.{Guarantee, Rounded}
+use Rattle.laws.specs.Accepted.{accepted-file}
 use Rattle.laws.specs.Demand3.{demand3}
+use Rattle.laws.specs.FileLimits.{numerator-fits, x-sum-fits, z-sum-fits}
 use Rattle.laws.specs.Judged.{passes-of-small}
 use Rattle.laws.specs.LogarithmBound.{logarithm-bound}
+use Rattle.laws.specs.LogarithmOrder.{logarithm-grows}
 use Rattle.laws.specs.MachineLaws.{heldState, heldOutcome, write-alone, outcomes-on-figures}
 use Rattle.laws.specs.Rows.{empty-is-refused}
+use Rattle.laws.specs.Theorem34.{loss-expands}
 
 module _ (f : Bytes) where
   -- of each part
@@ -144,3 +148,24 @@ same-outcomes = outcomes-on-figures
 
 pub row-empty : (f : Bytes) (channel year : ℕ) → (rowPart f channel year ≡ []) ↔ (rowCheck f channel year ≢ clear)
 row-empty = empty-is-refused
+
+-- ---- other laws that nothing builds on
+
+pub larger-logarithm : (a b : ℕ) → 1 ≤ a → a ≤ b → b < 2 ^ 64 → logarithm a ≤ logarithm b
+larger-logarithm = logarithm-grows
+
+pub loss-around : (c : Chain) (m : ℕ) (u μ : Vector) → let w : Vector = λ k. u k -ℤ pos m *ℤ μ k in lossTimes c m u
+    ≡ pos m *ℤ pos m *ℤ loss c μ +ℤ pos 2 *ℤ pos m *ℤ sum (2 * c .last + 1) (λ k. residueTimes c 1 μ k *ℤ w k)
+    +ℤ (sum (2 * c .last + 1) (λ k. weighted (own c k) (w k)) +ℤ sum (c .last) (λ d. weighted (c .g d) (ratio c w (c .last - d))))
+loss-around = loss-expands
+
+module _ (f : Bytes) (yes-file : accepted f ≡ true) where
+  pub divided-fits : (μ : Vector) → Each f (λ l. natAbs (μ l) ≤ 67108864)
+      → Each f (λ k. natAbs (matrix (chainOf f) k k -ℤ pos 2 *ℤ residueTimes (chainOf f) 1 μ k) < 2 ^ 63)
+  divided-fits = numerator-fits f (accepted-file f yes-file)
+
+  pub paid-sum-fits : (j : ℕ) → j ≤ lastYear f → natAbs (sum (lastYear f - j + 1) (λ i. paidStep f i j)) ≤ 2 ^ 30
+  paid-sum-fits = x-sum-fits f (accepted-file f yes-file)
+
+  pub incurred-sum-fits : (j : ℕ) → j < lastYear f → natAbs (sum (lastYear f - j) (λ i. incurredStep f i j)) ≤ 2 ^ 30
+  incurred-sum-fits = z-sum-fits f (accepted-file f yes-file)
