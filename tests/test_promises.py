@@ -1,4 +1,4 @@
-"""Promises that no proof builds on, and that could therefore be dropped or emptied unseen: each is expected by its name."""
+"""Promises that no proof builds on, so that they could be dropped or emptied unseen: each is expected, by name or to the letter."""
 
 import re
 import unittest
