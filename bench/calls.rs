@@ -51,6 +51,14 @@ struct System {
     right_hand: Vector,
 }
 
+#[repr(C)]
+#[derive(Clone, Copy, Debug, PartialEq, Eq)]
+struct Shown {
+    refusal: Refusal,
+    start: u64,
+    length: u64,
+}
+
 extern "C" {
     fn desk_open_lent(
         held: &mut [u64; 3], own: &mut Weights, matrix: &mut Matrix, right_hand: &mut Vector, mean: &mut Vector,
@@ -68,6 +76,7 @@ extern "C" {
     ) -> Refusal;
     fn desk_figures_lent(held: &[u64; 3], own: &Weights, matrix: &Matrix, right_hand: &Vector, mean: &Vector) -> System;
     fn desk_close_lent(held: &mut [u64; 3]);
+    fn desk_row(file: *const u8, length: usize, channel: u64, year: u64) -> Shown;
 }
 
 const ROUND_NANOSECONDS: f64 = 1e7; // of one call, over and over
@@ -75,6 +84,7 @@ const LISTINGS: u32 = 100; // runs of a listing program in a round
 
 const LONGEST_RECORD: usize = 129;
 const LONGEST_PAGE: usize = 868;
+const INCURRED: usize = 1;
 const DONE: Refusal = Refusal { number: 0, place: 0 };
 
 impl Held {
@@ -110,9 +120,15 @@ impl Held {
         // SAFETY: one array.
         unsafe { desk_close_lent(&mut self.held) }
     }
+    fn row(file: &[u8], channel: usize, year: usize) -> &[u8] {
+        // SAFETY: the pointer is the slice's, valid for its length.
+        let shown = unsafe { desk_row(file.as_ptr(), file.len(), channel as u64, year as u64) };
+        assert_eq!(shown.refusal, DONE);
+        &file[shown.start as usize..(shown.start + shown.length) as usize]
+    }
 }
 
-const CALLS: [&str; 7] = ["open", "judge", "one sweep", "sweep until settled", "read", "page", "figures"];
+const CALLS: [&str; 8] = ["open", "judge", "one sweep", "sweep until settled", "read", "page", "figures", "row"];
 
 /// What is timed of either desk; an answer is asserted, not used.
 trait Desk {
@@ -125,6 +141,7 @@ trait Desk {
     fn show_figures(&self);
     fn figures_shown(&self) -> Figures;
     fn start(&self) -> Start;
+    fn row_of(file: &[u8], channel: usize, year: usize) -> &[u8];
 }
 
 /// A mean and a total, to start the sweeps of a measurement from.
@@ -165,6 +182,9 @@ impl Desk for Held {
     fn start(&self) -> Start {
         (self.mean, self.held[2])
     }
+    fn row_of(file: &[u8], channel: usize, year: usize) -> &[u8] {
+        Held::row(file, channel, year)
+    }
 }
 
 impl Desk for Session {
@@ -201,6 +221,9 @@ impl Desk for Session {
     fn start(&self) -> Start {
         self.kept()
     }
+    fn row_of(file: &[u8], channel: usize, year: usize) -> &[u8] {
+        safe_desk::row(file, channel, year).expect("a row of an accepted file")
+    }
 }
 
 /// A desk with a file open, and the same settled.
@@ -231,6 +254,7 @@ impl<D: Desk> Ready<D> {
                 "read" => self.settled.read_into(black_box(&mut buffer)),
                 "page" => self.settled.page_into(black_box(&mut buffer)),
                 "figures" => black_box(&self.desk).show_figures(),
+                "row" => drop(black_box(D::row_of(black_box(file), INCURRED, usize::from(file[5])))), // the last, which is furthest
                 "one sweep" => drop(black_box(self.desk.sweep_from(&self.start, black_box(1)))),
                 _ => drop(black_box(self.desk.sweep_from(&self.start, black_box(4096)))),
             }
@@ -260,6 +284,9 @@ impl Pair {
         proved.settled.page_into(&mut page);
         plain.settled.page_into(&mut other);
         assert_eq!(page, other);
+        for (channel, year) in (0..=INCURRED).flat_map(|channel| (0..=usize::from(file[5])).map(move |year| (channel, year))) {
+            assert_eq!(Held::row_of(&file, channel, year), Session::row_of(&file, channel, year));
+        }
         record.truncate(5 + 4 * (2 * usize::from(file[5]) + 1));
         proved.desk.judge_passes(&record);
         plain.desk.judge_passes(&record);

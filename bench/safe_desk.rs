@@ -145,6 +145,21 @@ fn check(file: &[u8]) -> Result<Layout, Refusal> {
     Ok(at)
 }
 
+/// The amounts of a year in the paid (0) or the incurred (1) block of a file.
+#[inline(never)]
+pub fn row(file: &[u8], channel: usize, year: usize) -> Result<&[u8], Refusal> {
+    let at = check(file)?;
+    if channel > 1 {
+        return refuse(14, 0);
+    }
+    if year > at.last {
+        return refuse(15, 0);
+    }
+    let before = year * (2 * at.last + 3 - year) / 2;
+    let start = at.amount(channel * at.cells + before);
+    Ok(&file[start..start + 8 * (at.last + 1 - year)])
+}
+
 pub struct Session {
     last: usize,
     closeness: u64,

@@ -28,9 +28,9 @@
 extern "C" {
 #endif
 
-#define DESK_VERSION "1.2.0"
+#define DESK_VERSION "1.3.0"
 #define DESK_VERSION_MAJOR 1
-#define DESK_VERSION_MINOR 2
+#define DESK_VERSION_MINOR 3
 #define DESK_VERSION_PATCH 0
 
 #define DESK_PAID UINT64_C(0) /* the channels of a row */

@@ -12,6 +12,7 @@ import script
 import session
 import vectors
 from board_page import board_page
+from cells import printed
 from layout import Refusal
 from listing import listing, refused_line
 
@@ -80,6 +81,11 @@ def run_sample(arguments: argparse.Namespace) -> int:
     return 0
 
 
+def run_cells(_arguments: argparse.Namespace) -> int:
+    sys.stdout.write(printed())
+    return 0
+
+
 def run_reserves(_arguments: argparse.Namespace) -> int:
     file = paper.tables_file(RESERVES_CLOSENESS)
     ours = paper.reserves(file, paper.settled_mean(file))
@@ -133,6 +139,7 @@ def parser() -> argparse.ArgumentParser:
     sample = command("sample", run_sample, "write the file of the paper's Tables 10 and 11")
     sample.add_argument("out", type=Path, metavar="OUT", help="the file to write")
     sample.add_argument("--closeness", type=closeness, default=256, metavar="E", help="default %(default)s")
+    command("cells", run_cells, "print where each row starts, by cells and by bytes: docs/CELLS.md")
     command("reserves", run_reserves, "print the reserves of Tables 10 and 11 beside the paper's")
     return top
 

@@ -176,6 +176,9 @@ class CommandLine(unittest.TestCase):
         self.assertEqual(self.run_command("list", "-", given=F).stdout, listing(F).encode())
         self.assertEqual(self.run_command("page", "-", given=F).stdout, PAGE_OF_F)
 
+    def test_cells(self) -> None:
+        self.assertEqual(self.run_command("cells").stdout, (REFERENCE.parent / "docs" / "CELLS.md").read_bytes())
+
     def test_judge(self) -> None:
         with tempfile.TemporaryDirectory() as folder:
             file, spoilt, record = (Path(folder) / name for name in ("file", "spoilt", "record"))

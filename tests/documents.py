@@ -17,7 +17,7 @@ from resolving import Named, Span, among, owner, resolved
 
 DOCUMENTS = (
     "README.md", "CONTRIBUTING.md", "CHANGELOG.md", "python/README.md",
-    *(f"docs/{name}.md" for name in ("SPECIFICATION", "CLAIMS", "DECISIONS", "CALLS", "PERFORMANCE")),
+    *(f"docs/{name}.md" for name in ("SPECIFICATION", "CELLS", "CLAIMS", "DECISIONS", "CALLS", "PERFORMANCE")),
 )
 
 # What a document may show and the repository cannot have.

@@ -46,6 +46,14 @@ def not_negative(name: str, given: SupportsIndex) -> int:
     return number
 
 
+def within(name: str, given: SupportsIndex, high: int, low: int = 0, because: str = "") -> int:
+    """A whole number from low to high, limits that another argument may have set."""
+    number = whole(name, given)
+    if not low <= number <= high:
+        raise ValueError(f"{name} must be from {low} to {high}{because}, not {shown(number)}")
+    return number
+
+
 def sequence(name: str, wanted: str, given: Any) -> tuple[Any, ...]:
     """The things of a list, a tuple or any other sequence. Text and bytes are none of numbers, nor is what gives its things once."""
     is_sequence = hasattr(given, "__getitem__") and hasattr(given, "__len__")

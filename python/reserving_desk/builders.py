@@ -37,7 +37,8 @@ def file_of(
     """The file of two triangles of cumulative amounts; J is the number of accident years less 1.
 
     Variances are in squared ticks (`squared_ticks`): sigma squared of development years 0..J, tau squared of 0..J-1. The priors of
-    phi 0..J and psi 0..J-1 are pairs of mean and variance, as `Prior`.
+    phi 0..J and psi 0..J-1 are pairs of mean and variance, as `Prior`. Where each amount then stands in the file, `cell_place` tells,
+    and docs/CELLS.md prints it for the rows of every J.
     """
     last = len(sequence("paid", "a sequence of accident years", paid)) - 1
     if last < 0:

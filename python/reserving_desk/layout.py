@@ -10,7 +10,7 @@ from collections.abc import Iterable, Iterator
 from dataclasses import dataclass
 from enum import Enum, auto
 
-from .arguments import sequence, whole
+from .arguments import sequence, whole, within
 
 VERSION = 1
 LARGEST_YEAR = 15  # J is at most this
@@ -143,6 +143,19 @@ def placed(fields: Iterable[Field]) -> Iterator[tuple[int, Field]]:
     for field in fields:
         yield place, field
         place += field.kind.width
+
+
+def cell_place(last: int, channel: int, year: int, column: int) -> int:
+    """The first byte of an amount in a file whose J is `last`: `year` is the accident year, `column` the development year.
+
+    The paid block is channel 0, the incurred block 1. docs/CELLS.md prints the first byte of every row.
+    """
+    last = within("last", last, LARGEST_YEAR, low=1)
+    channel = within("channel", channel, INCURRED)
+    year = within("year", year, last, because=f", as J is {last}")
+    column = within("column", column, last - year, because=f", as J is {last} and the year {year}")
+    name = amount_name(CHANNELS[channel], year, column)
+    return next(place for place, field in placed(file_fields(last)) if field.name == name)
 
 
 def last_year_of(file: bytes) -> int:

@@ -11,7 +11,7 @@ from typing import Any
 from refusing import RECORD_OF_F, WRITING, F, opened
 
 import samples
-from reserving_desk import Mean, Prior, Session, file_of, natural_log, record_of, squared_ticks, ticks
+from reserving_desk import Mean, Prior, Session, cell_place, file_of, natural_log, record_of, squared_ticks, ticks
 
 NOT_WHOLE: tuple[Any, ...] = (1.5, 1.0, "1", None, True, False, Fraction(1), Decimal(1), [1], b"1")
 
@@ -193,6 +193,32 @@ class OfFiles(Named):
             ):
                 with self.assertRaisesRegex(TypeError, f"^{name} must be a whole number, not "):
                     file_of(**{**self.right, **argument})
+
+
+class OfCells(Named):
+    def test_outside(self) -> None:
+        for cell, said in (
+            ((0, 0, 0, 0), "last must be from 1 to 15, not 0"),
+            ((16, 0, 0, 0), "last must be from 1 to 15, not 16"),
+            ((9, 2, 0, 0), "channel must be from 0 to 1, not 2"),
+            ((9, -1, 0, 0), "channel must be from 0 to 1, not -1"),
+            ((9, 0, 10, 0), "year must be from 0 to 9, as J is 9, not 10"),
+            ((9, 0, -1, 0), "year must be from 0 to 9, as J is 9, not -1"),
+            ((9, 1, 6, 4), "column must be from 0 to 3, as J is 9 and the year 6, not 4"),
+            ((9, 1, 6, -1), "column must be from 0 to 3, as J is 9 and the year 6, not -1"),
+            ((1, 1, 1, 1), "column must be from 0 to 0, as J is 1 and the year 1, not 1"),
+        ):
+            self.assert_told(ValueError, said, cell_place, *cell)
+
+    def test_no_whole_numbers(self) -> None:
+        for place, name in enumerate(("last", "channel", "year", "column")):
+            for wrong in (*NOT_WHOLE, bool_(1), WithoutRepr()):
+                cell: list[Any] = [1, 0, 0, 0]
+                cell[place] = wrong
+                with self.assertRaisesRegex(TypeError, f"^{name} must be a whole number, not "):
+                    cell_place(*cell)
+        numbers: list[Any] = [Number(1)] * 3 + [Number(0)]
+        self.assertEqual(cell_place(*numbers), 110)
 
 
 class OfScales(Named):

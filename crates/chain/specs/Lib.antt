@@ -7,12 +7,11 @@
 --   AcceptedFits   the figures of an accepted file fit, and its prior means are inside the limits
 --   Sizes          the sizes of what the code computes
 --   Bits           a whole number in the bits of an i64
---   Filled, Turned an array that is filled, or rewritten, from the front
+--   Turned         an array that is rewritten from the front
 pub mod AcceptedFits
 pub mod Arrays
 pub mod Bits
 pub mod Decides
-pub mod Filled
 pub mod Fitting
 pub mod Judge
 pub mod Residues

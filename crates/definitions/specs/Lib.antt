@@ -3,6 +3,7 @@
 --   Logarithm      the logarithm of an amount, in ticks
 --   Weight         the weight of a variance
 --   Layout         the file and the mean record: fields, places, lengths
+--   RowStarts      the constant table of row starts
 --   Refusals       the checks 1 to 11, 14 and 15, in number order, with their places
 --   Observations   weights p, q, s, t, g and observations x, z, y of a file
 --   Loss           the loss of u/m times m²
@@ -22,6 +23,7 @@ pub mod Words
 pub mod Logarithm
 pub mod Weight
 pub mod Layout
+pub mod RowStarts
 pub mod Refusals
 pub mod Observations
 pub mod Loss

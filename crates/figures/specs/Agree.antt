@@ -2,6 +2,7 @@
 use Prim.Native.Nat.{ℕ, zero, suc, _+_, _*_, _-_, _≤_, _<_, min}
 use mathlib.Core.Path.{_≡_, sym, ap, ap₂, subst, _∙_}
 use mathlib.Core.List.{List}
+use native.Mathlib.Nat.{zero-add}
 use native.Mathlib.Omega.{arith}
 use lib.Dec.{eqb}
 use lib.IntN.{ℤ, pos, _+ℤ_, _-ℤ_, _*ℤ_}
@@ -13,14 +14,14 @@ use Rattle.definitions.specs.Logarithm.{logarithm}
 use Rattle.definitions.specs.Weight.{weight}
 use Rattle.definitions.specs.Observations.{Chain, chainOf, paidStep, incurredStep, lastRatio}
 use Rattle.definitions.specs.Matrix.{Part, Φ, Ψ, partOf, ownOf, own, matrix, sharedBy, ratiosOfLast, rightHand}
-use Rattle.laws.specs.Accepted.{cell-below}
+use Rattle.laws.specs.Cells.{cell-below}
 use Rattle.laws.specs.Ranks.{rankOf, signOf, partOf-phi, partOf-psi, by-part, rank-below, matrix-by-ranks}
 use Rattle.laws.specs.PrecisionMatrix.{firstsOf, ratios-by-development, target-by-rank}
 use Rattle.figures.specs.Reading.{ColumnWeights, PriorWeights, PriorMeans, Logarithms}
 use Rattle.figures.specs.Weights.{at, observations, RatioWeights, SharesOf, OwnWeights}
 use Rattle.figures.specs.WeightLaws.{observations-phi, observations-psi}
 use Rattle.figures.specs.Entries.{entryOf}
-use Rattle.figures.specs.Sums.{stepSum, startSum, columnOf, columnSum, ratioOf, RatioSums, targetFrom}
+use Rattle.figures.specs.Sums.{stepOf, stepSum, startSum, columnOf, columnSum, ColumnSums, ratioOf, RatioSums, targetFrom}
 
 module _ (f : Bytes) where
   abbrev J : ℕ
@@ -82,31 +83,29 @@ module _ (f : Bytes) where
         alone : (n : ℕ) → n + 0 ≡ n
         alone n = omega arith
 
-    paid-agrees : (j : ℕ) → suc j ≤ J → stepSum logs J j (J - suc j + 1) ≡ sum (J - suc j + 1) (λ i. paidStep f i (suc j))
+    paid-agrees : (j : ℕ) → suc j ≤ J → stepSum logs J 0 j ≡ sum (J - suc j + 1) (λ i. paidStep f i (suc j))
     unfolding stepSum paidStep
     paid-agrees j few =
-        sum-cong (J - suc j + 1) (λ i below. ap₂ _-ℤ_
+        ap (λ n. sum n (stepOf logs J 0 j)) (count few)
+        ∙ sum-cong (J - suc j + 1) (λ i below. ap₂ _-ℤ_
         (ap (part logs) (second j (rowStart J i)) ∙ paid-log i (suc j) (omega arith))
-        (ap (part logs) (first j (rowStart J i)) ∙ paid-log i j (omega arith)))
+        (ap (part logs) (zero-add (rowStart J i + j)) ∙ paid-log i j (omega arith)))
       where
-        second : (j n : ℕ) → j + n + 1 ≡ n + suc j
+        count : suc j ≤ J → J - j ≡ J - suc j + 1
+        count h = omega arith
+
+        second : (j n : ℕ) → 0 + (n + j) + 1 ≡ n + suc j
         second j n = omega arith
 
-        first : (j n : ℕ) → j + n ≡ n + j
-        first j n = omega arith
-
-    incurred-agrees : (j : ℕ) → j < J → stepSum logs J (cells J + j) (J - j) ≡ sum (J - j) (λ i. incurredStep f i j)
+    incurred-agrees : (j : ℕ) → stepSum logs J (cells J) j ≡ sum (J - j) (λ i. incurredStep f i j)
     unfolding stepSum incurredStep
-    incurred-agrees j few =
+    incurred-agrees j =
         sum-cong (J - j) (λ i below. ap₂ _-ℤ_
         (ap (part logs) (second (cells J) j (rowStart J i)) ∙ incurred-log i (j + 1) (omega arith))
-        (ap (part logs) (first (cells J) j (rowStart J i)) ∙ incurred-log i j (omega arith)))
+        (incurred-log i j (omega arith)))
       where
-        second : (m j n : ℕ) → m + j + n + 1 ≡ m + (n + (j + 1))
+        second : (m j n : ℕ) → m + (n + j) + 1 ≡ m + (n + (j + 1))
         second m j n = omega arith
-
-        first : (m j n : ℕ) → m + j + n ≡ m + (n + j)
-        first m j n = omega arith
 
     ratio-agrees : (d : ℕ) → d < J → ratioOf logs J d ≡ lastRatio f (J - d)
     unfolding lastRatio
@@ -123,8 +122,8 @@ module _ (f : Bytes) where
         ∙ sum-cong m (λ d below. ap₂ (λ w y. pos w *ℤ y) (weights .is d (omega arith)) (ratio-agrees d (omega arith)))
         ∙ sym (ratios-by-development c m few)
 
-    module _ {columns priors : List ℕ} {means : List ℤ}
-        (p : ColumnWeights f columns) (s : PriorWeights f priors) (m : PriorMeans f means) where
+    module _ {columns priors : List ℕ} {means sums : List ℤ}
+        (p : ColumnWeights f columns) (s : PriorWeights f priors) (m : PriorMeans f means) (o : ColumnSums logs J sums) where
       -- of the part k, which is a
       abbrev firstsFrom : Part → ℕ → ℤ
       firstsFrom a k = pos (at priors k) *ℤ part means k +ℤ pos (at columns k) *ℤ columnOf logs J a
@@ -143,7 +142,7 @@ module _ (f : Bytes) where
       phi (suc j) few = firsts-by (suc j) (omega arith) (paid-agrees j few)
 
       psi : (j : ℕ) → j < J → firstsFrom (Ψ j) (psiIndex J j) ≡ firstsOf c (Ψ j)
-      psi j below = firsts-by (psiIndex J j) (omega arith) (incurred-agrees j below)
+      psi j below = firsts-by (psiIndex J j) (omega arith) (incurred-agrees j)
 
       firsts-agree : (k : ℕ) → k < n → firstsFrom (kind k) k ≡ firstsOf c (kind k)
       firsts-agree =
@@ -152,8 +151,10 @@ module _ (f : Bytes) where
           (λ j below. subst (λ a. firstsFrom a (psiIndex J j) ≡ firstsOf c a) (sym (partOf-psi J j)) (psi j below))
 
       pub target-agrees : (ratios : List ℤ) → ((m : ℕ) → m ≤ J → part ratios m ≡ ratiosOfLast c m)
-          → (k : ℕ) → k < n → targetFrom priors means columns logs ratios J k ≡ rightHand c k
+          → (k : ℕ) → k < n → targetFrom priors means columns sums ratios J k ≡ rightHand c k
       unfolding targetFrom rightHand columnSum
       target-agrees ratios shared k below =
-          ap₂ (λ o z. o +ℤ signOf (kind k) *ℤ z) (firsts-agree k below) (shared (rankOf (kind k)) (rank-below J k below))
+          let own = ap (λ z. pos (at priors k) *ℤ part means k +ℤ pos (at columns k) *ℤ z) (o .filled .front k below) in
+          let common = shared (rankOf (kind k)) (rank-below J k below) in
+          ap₂ (λ y z. y +ℤ signOf (kind k) *ℤ z) (own ∙ firsts-agree k below) common
           ∙ sym (target-by-rank c (kind k))

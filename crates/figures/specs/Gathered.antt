@@ -19,12 +19,14 @@ use Rattle.laws.specs.Diagonal.{matrix-symmetric}
 use Rattle.laws.specs.FileLimits.{logarithm-limit, y-limit, file-limits}
 use Rattle.laws.specs.PrecisionMatrix.{ratios-by-development}
 use Rattle.laws.specs.Tables.{tab-cong}
+use Rattle.row_starts.specs.Starts.{Starts}
 use Rattle.layout.specs.Checks.{Whole}
 use Rattle.chain.specs.Arrays.{figuresAt, figuresOf, cell, cell-at, cell-mirrored}
 use Rattle.figures.specs.Reading.{ColumnWeights, PriorWeights, PriorMeans, Logarithms}
 use Rattle.figures.specs.Weights.{at, Adds, RatioWeights, Shares, SharesOf, Owns, OwnWeights}
 use Rattle.figures.specs.Entries.{OfMatrix, MatrixOf}
-use Rattle.figures.specs.Sums.{Logs, OfRatios, RatioSums, OfTargets, Targets}
+use Rattle.figures.specs.Sums.{Logs, OfRows, ColumnSums, OfRatios, RatioSums, OfTargets, Targets}
+use Rattle.figures.specs.SumLaws.{columnSum-small}
 use Rattle.figures.specs.Agree.{own-agrees, shares-agree, entry-agrees, ratios-agree, target-agrees}
 
 -- the arrays that are read of a file, and what is made of them
@@ -36,6 +38,7 @@ pub record Arrays : Type 0 where
   pub logs : List ℤ
   pub means : List ℤ
   pub sums : List ℤ
+  pub steps : List ℤ
   pub ratios : List ℤ
 
 pub record OfFile (f : Bytes) (last : ℕ) (a : Arrays) : Type 0 where
@@ -46,6 +49,7 @@ pub record OfFile (f : Bytes) (last : ℕ) (a : Arrays) : Type 0 where
   pub logs-are : Logarithms f (a .logs)
   pub means-are : PriorMeans f (a .means)
   pub sums-are : SharesOf (a .weights) last (a .sums)
+  pub steps-are : ColumnSums (a .logs) last (a .steps)
   pub ratios-are : RatioSums (a .weights) (a .logs) last (a .ratios)
 
 module _ (f : Bytes) (h : AcceptedFile f) where
@@ -81,14 +85,17 @@ module _ (f : Bytes) (h : AcceptedFile f) where
   pub file-shares : {g : List ℕ} → RatioWeights f g → Shares g J
   file-shares g = record { few = h .years .to; small = λ k below. omega (arith, weights-to g k below) }
 
-  pub file-logs : {logs : List ℤ} → Logarithms f logs → Logs logs J
+  file-logs : {logs : List ℤ} → Logarithms f logs → Logs logs J
   file-logs l = record {
     few = h .years .to;
     small = λ c below. rw (l .filled .front c below) (logarithm-limit (amount f c) (h .amounts c below));
   }
 
-  pub file-ratios : {g : List ℕ} {logs : List ℤ} → RatioWeights f g → Logarithms f logs → OfRatios g logs J
-  file-ratios g l = record { logs-small = file-logs l; weights-small = weights-to g }
+  pub file-rows : {logs : List ℤ} {starts : List ℕ} → Logarithms f logs → Starts J starts → OfRows logs starts J
+  file-rows l s = record { logs-small = file-logs l; starts-are = s }
+
+  pub file-ratios : {g : List ℕ} {logs : List ℤ} {starts : List ℕ} → RatioWeights f g → OfRows logs starts J → OfRatios g logs starts J
+  file-ratios g h = record { of-rows = h; weights-small = weights-to g }
 
   ratio-sum-to : (m : ℕ) → m ≤ J → natAbs (ratiosOfLast c m) ≤ 2 ^ 58
   ratio-sum-to m few =
@@ -104,12 +111,13 @@ module _ (f : Bytes) (h : AcceptedFile f) where
     ratios-are : (m : ℕ) → m ≤ J → part (a .ratios) m ≡ ratiosOfLast c m
     ratios-are = ratios-agree f (r .logs-are) (r .weights-are) (r .ratios-are)
 
-    pub file-targets : OfTargets (a .priors) (a .means) (a .columns) (a .logs) (a .ratios) J
+    pub file-targets : OfTargets (a .priors) (a .means) (a .columns) (a .steps) (a .ratios) J
     file-targets = record {
-      logs-small = file-logs (r .logs-are);
+      few = h .years .to;
       priors-small = priors-to (r .priors-are);
       means-small = λ k below. rw (r .means-are .filled .front k below) (h .prior-means k below);
       columns-small = columns-to (r .columns-are);
+      sums-small = λ k below. rw (r .steps-are .filled .front k below) (columnSum-small (a .logs) J k (file-logs (r .logs-are)));
       ratios-small = λ m few. rw (ratios-are m few) (ratio-sum-to m few);
     }
 
@@ -129,7 +137,7 @@ module _ (f : Bytes) (h : AcceptedFile f) where
     -- ---- the figures
 
     module _ {targets A : List ℤ}
-        (t : Targets (a .priors) (a .means) (a .columns) (a .logs) (a .ratios) J targets)
+        (t : Targets (a .priors) (a .means) (a .columns) (a .steps) (a .ratios) J targets)
         (filled : MatrixOf (a .own) (a .sums) J A) where
       -- an entry on or below the diagonal is the one that is filled, and one above it is that of its mirror
       on-or-below : (k j : ℕ) → k < n → j < n → j ≤ k → cell A k j ≡ matrix c k j
@@ -151,7 +159,7 @@ module _ (f : Bytes) (h : AcceptedFile f) where
       target-is : (k : ℕ) → k < n → part targets k ≡ rightHand c k
       target-is k below =
           t .filled .front k below
-          ∙ target-agrees f (r .logs-are) (r .columns-are) (r .priors-are) (r .means-are) (a .ratios) ratios-are k below
+          ∙ target-agrees f (r .logs-are) (r .columns-are) (r .priors-are) (r .means-are) (r .steps-are) (a .ratios) ratios-are k below
 
       pub gathered : figuresOf (figuresAt J (closeness f) (a .own) A targets) ≡ D.figuresOf f
       unfolding figuresOf D.figuresOf

@@ -1,15 +1,12 @@
 -- The contracts of reading a file into arrays.
 use Prim.Native.Nat.{ℕ, _+_, _*_, _≤_}
 use mathlib.Core.List.{List}
-use native.Mathlib.Nat.{mul-le-mul}
-use native.Mathlib.Omega.{arith}
 use lib.IntN.{ℤ, pos}
 use Rattle.definitions.specs.Layout.{Bytes, lastYear, parts, cells, varianceOf, priorVariance, priorMean, amount}
 use Rattle.definitions.specs.Logarithm.{logarithm}
-use Rattle.definitions.specs.Refusals.{yearLimit}
 use Rattle.definitions.specs.Weight.{weight}
+use Rattle.laws.specs.Filled.{Filled}
 use Rattle.layout.specs.Checks.{Whole}
-use Rattle.chain.specs.Filled.{Filled}
 
 pub record ColumnWeights (f : Bytes) (r : List ℕ) : Type 0 where
   pub filled : Filled 31 (parts (lastYear f)) 0 (λ k. weight (varianceOf f k)) r
@@ -32,7 +29,3 @@ pub record OfFour (f : Bytes) (c : ℕ) (logs : List ℤ) : Type 0 where
 
 pub record Logarithms (f : Bytes) (r : List ℤ) : Type 0 where
   pub filled : CellsTo (2 * cells (lastYear f)) f r
-
--- the two blocks of at most 16 years have at most 272 cells
-pub cells-few : (last : ℕ) → last ≤ yearLimit → 2 * cells last ≤ 272
-cells-few last few = omega (arith, mul-le-mul {n₁ = last + 1} {m₁ = last + 2} {n₂ = 16} {m₂ = 17} (omega arith) (omega arith))

@@ -9,7 +9,8 @@ use Rattle.definitions.specs.Layout.{parts, cells, rowStart}
 use Rattle.definitions.specs.Refusals.{yearLimit}
 use Rattle.definitions.specs.Matrix.{Part, Φ, Ψ, partOf}
 use Rattle.laws.specs.Ranks.{rankOf, signOf}
-use Rattle.chain.specs.Filled.{Filled}
+use Rattle.laws.specs.Filled.{Filled}
+use Rattle.row_starts.specs.Starts.{Starts}
 use Rattle.figures.specs.Weights.{at}
 
 -- every logarithm is at most 2^26 in size
@@ -17,36 +18,42 @@ pub record Logs (logs : List ℤ) (last : ℕ) : Type 0 where
   pub few : last ≤ yearLimit
   pub small : (c : ℕ) → c < 2 * cells last → natAbs (part logs c) ≤ 2 ^ 26
 
+-- with the starts of the rows, as the table has them
+pub record OfRows (logs : List ℤ) (starts : List ℕ) (last : ℕ) : Type 0 where
+  pub logs-small : Logs logs last
+  pub starts-are : Starts last starts
+
 -- ---- columns
 
-abbrev pub stepOf : List ℤ → ℕ → ℕ → ℕ → ℤ
-stepOf logs J first i = part logs (first + rowStart J i + 1) -ℤ part logs (first + rowStart J i)
+-- year i's step from column j to the next; the cells of the block start at `block`
+abbrev pub stepOf : List ℤ → ℕ → ℕ → ℕ → ℕ → ℤ
+stepOf logs J block j i = part logs (block + (rowStart J i + j) + 1) -ℤ part logs (block + (rowStart J i + j))
 
 unfoldable pub stepSum : List ℤ → ℕ → ℕ → ℕ → ℤ
-stepSum logs J first n = sum n (stepOf logs J first)
+stepSum logs J block j = sum (J - j) (stepOf logs J block j)
 
 unfoldable pub startSum : List ℤ → ℕ → ℤ
 startSum logs J = sum (J + 1) (λ i. part logs (rowStart J i))
 
 abbrev pub columnOf : List ℤ → ℕ → Part → ℤ
 columnOf logs J (Φ zero) = startSum logs J
-columnOf logs J (Φ (suc j)) = stepSum logs J j (J - suc j + 1)
-columnOf logs J (Ψ j) = stepSum logs J (cells J + j) (J - j)
+columnOf logs J (Φ (suc j)) = stepSum logs J 0 j
+columnOf logs J (Ψ j) = stepSum logs J (cells J) j
 
 unfoldable pub columnSum : List ℤ → ℕ → ℕ → ℤ
 columnSum logs J k = columnOf logs J (partOf J k)
 
-pub record OfSteps (logs : List ℤ) (last first n : ℕ) : Type 0 where
-  pub logs-small : Logs logs last
-  pub few : n ≤ last
-  pub inside : (i : ℕ) → i < n → first + rowStart last i + 1 < 2 * cells last
+pub record OfSteps (logs : List ℤ) (starts : List ℕ) (last block column : ℕ) : Type 0 where
+  pub of-rows : OfRows logs starts last
+  pub in-blocks : block ≤ cells last
+  pub before-last : column < last
 
-pub record OfStarts (logs : List ℤ) (last : ℕ) : Type 0 where
-  pub logs-small : Logs logs last
-
-pub record OfColumn (logs : List ℤ) (last k : ℕ) : Type 0 where
-  pub logs-small : Logs logs last
+pub record OfColumn (logs : List ℤ) (starts : List ℕ) (last k : ℕ) : Type 0 where
+  pub of-rows : OfRows logs starts last
   pub below : k < parts last
+
+pub record ColumnSums (logs : List ℤ) (last : ℕ) (r : List ℤ) : Type 0 where
+  pub filled : Filled 31 (parts last) (pos 0) (columnSum logs last) r
 
 -- ---- ratios
 
@@ -57,8 +64,8 @@ lastCell J d = rowStart J (J - d) + d
 abbrev pub ratioOf : List ℤ → ℕ → ℕ → ℤ
 ratioOf logs J d = part logs (cells J + lastCell J d) -ℤ part logs (lastCell J d)
 
-pub record OfRatios (g : List ℕ) (logs : List ℤ) (last : ℕ) : Type 0 where
-  pub logs-small : Logs logs last
+pub record OfRatios (g : List ℕ) (logs : List ℤ) (starts : List ℕ) (last : ℕ) : Type 0 where
+  pub of-rows : OfRows logs starts last
   pub weights-small : (d : ℕ) → d < last → at g d ≤ 2 ^ 27
 
 abbrev pub ratioSum : List ℕ → List ℤ → ℕ → ℕ → ℤ
@@ -69,20 +76,21 @@ pub record RatioSums (g : List ℕ) (logs : List ℤ) (last : ℕ) (r : List ℤ
 
 -- ---- right-hand side
 
-pub record OfTargets (s : List ℕ) (prior : List ℤ) (p : List ℕ) (logs ratios : List ℤ) (last : ℕ) : Type 0 where
-  pub logs-small : Logs logs last
+pub record OfTargets (s : List ℕ) (prior : List ℤ) (p : List ℕ) (sums ratios : List ℤ) (last : ℕ) : Type 0 where
+  pub few : last ≤ yearLimit
   pub priors-small : (k : ℕ) → k < parts last → at s k ≤ 2 ^ 28
   pub means-small : (k : ℕ) → k < parts last → natAbs (part prior k) ≤ 2 ^ 26
   pub columns-small : (k : ℕ) → k < parts last → at p k ≤ 2 ^ 28
+  pub sums-small : (k : ℕ) → k < parts last → natAbs (part sums k) ≤ 2 ^ 31
   pub ratios-small : (n : ℕ) → n ≤ last → natAbs (part ratios n) ≤ 2 ^ 58
 
-pub record OfTarget (s : List ℕ) (prior : List ℤ) (p : List ℕ) (logs ratios : List ℤ) (last k : ℕ) : Type 0 where
-  pub of-targets : OfTargets s prior p logs ratios last
+pub record OfTarget (s : List ℕ) (prior : List ℤ) (p : List ℕ) (sums ratios : List ℤ) (last k : ℕ) : Type 0 where
+  pub of-targets : OfTargets s prior p sums ratios last
   pub below : k < parts last
 
 unfoldable pub targetFrom : List ℕ → List ℤ → List ℕ → List ℤ → List ℤ → ℕ → ℕ → ℤ
-targetFrom s prior p logs ratios J k =
-    pos (at s k) *ℤ part prior k +ℤ pos (at p k) *ℤ columnSum logs J k +ℤ signOf (partOf J k) *ℤ part ratios (rankOf (partOf J k))
+targetFrom s prior p sums ratios J k =
+    pos (at s k) *ℤ part prior k +ℤ pos (at p k) *ℤ part sums k +ℤ signOf (partOf J k) *ℤ part ratios (rankOf (partOf J k))
 
-pub record Targets (s : List ℕ) (prior : List ℤ) (p : List ℕ) (logs ratios : List ℤ) (last : ℕ) (r : List ℤ) : Type 0 where
-  pub filled : Filled 31 (parts last) (pos 0) (targetFrom s prior p logs ratios last) r
+pub record Targets (s : List ℕ) (prior : List ℤ) (p : List ℕ) (sums ratios : List ℤ) (last : ℕ) (r : List ℤ) : Type 0 where
+  pub filled : Filled 31 (parts last) (pos 0) (targetFrom s prior p sums ratios last) r

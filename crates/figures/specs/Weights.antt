@@ -12,8 +12,8 @@ use Rattle.definitions.specs.Layout.{Bytes, lastYear, parts, varianceOf}
 use Rattle.definitions.specs.Observations.{ratioVariance}
 use Rattle.definitions.specs.Refusals.{yearLimit}
 use Rattle.definitions.specs.Weight.{weight}
+use Rattle.laws.specs.Filled.{Filled}
 use Rattle.layout.specs.Checks.{Whole}
-use Rattle.chain.specs.Filled.{Filled}
 
 -- element k of an array of naturals
 abbrev pub at : List ℕ → ℕ → ℕ

@@ -11,12 +11,14 @@ use crate::reading::column_weights;
 use crate::reading::logarithms;
 use crate::reading::prior_means;
 use crate::reading::prior_weights;
+use crate::right_hand::column_sums;
 use crate::right_hand::ratio_sums;
 use crate::right_hand::right_hand_of;
 use crate::weights::own_weights;
 use crate::weights::ratio_weights;
 use crate::weights::shares;
 use layout::places::last_year;
+use row_starts::starts_of;
 
 pub mod matrix;
 pub mod reading;
@@ -46,8 +48,10 @@ pub fn figures_in<'a>(
     let sums = shares(&weights, last);
     let logs = logarithms(file);
     let means = prior_means(file);
-    let ratios = ratio_sums(&weights, &logs, last);
-    let targets = right_hand_of(&priors, &means, &columns, &logs, &ratios, last);
+    let starts = starts_of(last);
+    let steps = column_sums(&logs, &starts, last);
+    let ratios = ratio_sums(&weights, &logs, &starts, last);
+    let targets = right_hand_of(&priors, &means, &columns, &steps, &ratios, last);
     fill_matrix(matrix, &weighed, &sums, last);
     *own = weighed;
     *right_hand = targets;

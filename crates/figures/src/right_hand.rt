@@ -1,12 +1,13 @@
 // The right-hand side, from the logarithms of the amounts, the weights and the prior means.
 ghost use mathlib.Core.Path.{_≡_};
 ghost use Rattle.figures.specs.Sums.{
+  OfRows,
   OfSteps,
   stepSum,
-  OfStarts,
   startSum,
   OfColumn,
   columnSum,
+  ColumnSums,
   OfRatios,
   RatioSums,
   OfTarget,
@@ -15,76 +16,97 @@ ghost use Rattle.figures.specs.Sums.{
   Targets,
 };
 use crate::matrix::rank_of;
-use crate::weights::observations_of;
 use layout::places::cells_of;
 
-// Σ of log(cell + 1) − log(cell) over the first n years, the cell of year 0 being `first`.
-fn step_sum(logs: &[i64; 272], last: u8, first: usize, n: usize) -> i64
-    requires { ⌜ OfSteps (now logs) last first n ⌝ }
-    ensures { λ r. ⌜ r ≡ stepSum (now (logs .entry)) last first n ⌝ }
+// Σ over the accident years of the step from a column of a block to the next: log(cell + 1) − log(cell).
+fn step_sum<'a>(
+    logs: &'a [i64; 272],
+    starts: &'a [usize; 16],
+    last: u8,
+    block: usize,
+    column: usize,
+) -> i64
+    requires { ⌜ OfSteps (now logs) (now starts) last block column ⌝ }
+    ensures { λ r. ⌜ r ≡ stepSum (now (logs .entry)) last block column ⌝ }
 {
+    let count = last as usize - column;
     let mut total = 0i64;
-    let mut at = first;
-    let mut columns = last as usize + 1;
     let mut i = 0usize;
-    while i < n {
+    while i < count {
+        let at = block + (starts[i] + column);
         total += logs[at + 1] - logs[at];
-        at += columns;
-        columns -= 1;
         i += 1;
     }
     total
 }
 
 // Σ of the logarithms of each year's first paid amount.
-fn start_sum(logs: &[i64; 272], last: u8) -> i64
-    requires { ⌜ OfStarts (now logs) last ⌝ }
+fn start_sum<'a>(logs: &'a [i64; 272], starts: &'a [usize; 16], last: u8) -> i64
+    requires { ⌜ OfRows (now logs) (now starts) last ⌝ }
     ensures { λ r. ⌜ r ≡ startSum (now (logs .entry)) last ⌝ }
 {
     let count = last as usize + 1;
     let mut total = 0i64;
-    let mut at = 0usize;
     let mut i = 0usize;
     while i < count {
-        total += logs[at];
-        at += count - i;
+        total += logs[starts[i]];
         i += 1;
     }
     total
 }
 
 // Σ of a part's own observations.
-fn column_sum(logs: &[i64; 272], last: u8, k: usize) -> i64
-    requires { ⌜ OfColumn (now logs) last k ⌝ }
+fn column_sum<'a>(logs: &'a [i64; 272], starts: &'a [usize; 16], last: u8, k: usize) -> i64
+    requires { ⌜ OfColumn (now logs) (now starts) last k ⌝ }
     ensures { λ r. ⌜ r ≡ columnSum (now (logs .entry)) last k ⌝ }
 {
     if k == 0 {
-        return start_sum(logs, last);
+        return start_sum(logs, starts, last);
     }
-    let n = observations_of(last, k);
     let years = last as usize;
     if k <= years {
-        return step_sum(logs, last, k - 1, n);
+        return step_sum(logs, starts, last, 0, k - 1);
     }
-    step_sum(logs, last, cells_of(last) + (k - years - 1), n)
+    step_sum(logs, starts, last, cells_of(last), k - years - 1)
 }
 
-// The sums of g times y over the first n development years, for n = 0..J. The last cell of the accident year that development
-// year d belongs to moves up by d + 1 cells.
-pub fn ratio_sums<'a>(weights: &'a [u64; 15], logs: &'a [i64; 272], last: u8) -> [i64; 16]
-    requires { ⌜ OfRatios (now weights) (now logs) last ⌝ }
+// The same of every part.
+pub fn column_sums<'a>(logs: &'a [i64; 272], starts: &'a [usize; 16], last: u8) -> [i64; 31]
+    requires { ⌜ OfRows (now logs) (now starts) last ⌝ }
+    ensures { λ r. ⌜ ColumnSums (now (logs .entry)) last r ⌝ }
+{
+    let count = 2 * (last as usize) + 1;
+    let mut sums = [0i64; 31];
+    let mut k = 0usize;
+    while k < count {
+        let sum = column_sum(logs, starts, last, k);
+        sums[k] = sum;
+        k += 1;
+    }
+    sums
+}
+
+// The sums of g times y over the first n development years, for n = 0..J. Development year d is the last one of the accident
+// year J − d.
+pub fn ratio_sums<'a>(
+    weights: &'a [u64; 15],
+    logs: &'a [i64; 272],
+    starts: &'a [usize; 16],
+    last: u8,
+) -> [i64; 16]
+    requires { ⌜ OfRatios (now weights) (now logs) (now starts) last ⌝ }
     ensures { λ r. ⌜ RatioSums (now (weights .entry)) (now (logs .entry)) last r ⌝ }
 {
     let years = last as usize;
     let cells = cells_of(last);
     let mut sums = [0i64; 16];
     let mut total = 0i64;
-    let mut at = cells - 1;
     let mut d = 0usize;
     while d < years {
+        let year = years - d;
+        let at = starts[year] + d;
         total += weights[d] as i64 * (logs[cells + at] - logs[at]);
         d += 1;
-        at -= d;
         sums[d] = total;
     }
     sums
@@ -95,16 +117,16 @@ fn right_hand_at<'a>(
     priors: &'a [u64; 31],
     means: &'a [i64; 31],
     columns: &'a [u64; 31],
-    logs: &'a [i64; 272],
+    sums: &'a [i64; 31],
     ratios: &'a [i64; 16],
     last: u8,
     k: usize,
 ) -> i64
-    requires { ⌜ OfTarget (now priors) (now means) (now columns) (now logs) (now ratios) last k ⌝ }
+    requires { ⌜ OfTarget (now priors) (now means) (now columns) (now sums) (now ratios) last k ⌝ }
     ensures { λ r. ⌜ r ≡ targetFrom
-        (now (priors .entry)) (now (means .entry)) (now (columns .entry)) (now (logs .entry)) (now (ratios .entry)) last k ⌝ }
+        (now (priors .entry)) (now (means .entry)) (now (columns .entry)) (now (sums .entry)) (now (ratios .entry)) last k ⌝ }
 {
-    let own = priors[k] as i64 * means[k] + columns[k] as i64 * column_sum(logs, last, k);
+    let own = priors[k] as i64 * means[k] + columns[k] as i64 * sums[k];
     let shared = ratios[rank_of(last, k)];
     if k <= last as usize {
         return own + shared;
@@ -116,19 +138,19 @@ pub fn right_hand_of<'a>(
     priors: &'a [u64; 31],
     means: &'a [i64; 31],
     columns: &'a [u64; 31],
-    logs: &'a [i64; 272],
+    sums: &'a [i64; 31],
     ratios: &'a [i64; 16],
     last: u8,
 ) -> [i64; 31]
-    requires { ⌜ OfTargets (now priors) (now means) (now columns) (now logs) (now ratios) last ⌝ }
+    requires { ⌜ OfTargets (now priors) (now means) (now columns) (now sums) (now ratios) last ⌝ }
     ensures { λ r. ⌜ Targets
-        (now (priors .entry)) (now (means .entry)) (now (columns .entry)) (now (logs .entry)) (now (ratios .entry)) last r ⌝ }
+        (now (priors .entry)) (now (means .entry)) (now (columns .entry)) (now (sums .entry)) (now (ratios .entry)) last r ⌝ }
 {
     let count = 2 * (last as usize) + 1;
     let mut targets = [0i64; 31];
     let mut k = 0usize;
     while k < count {
-        let value = right_hand_at(priors, means, columns, logs, ratios, last, k);
+        let value = right_hand_at(priors, means, columns, sums, ratios, last, k);
         targets[k] = value;
         k += 1;
     }

@@ -45,7 +45,7 @@ pub fn shares(weights: &[u64; 15], last: u8) -> [i64; 16]
 }
 
 // How many observations a part has of its own.
-pub fn observations_of(last: u8, k: usize) -> usize
+fn observations_of(last: u8, k: usize) -> usize
     requires { ⌜ OfPart last k ⌝ }
     ensures { λ r. ⌜ r ≡ observations last k ⌝ }
 {

@@ -1,6 +1,6 @@
 -- What an accepted file is known to hold, field by field.
-use Prim.Native.Nat.{ℕ, zero, suc, _+_, _*_, _-_, _^_, _≤_, _<_, zero-le}
-use mathlib.Core.Path.{_≡_, refl, sym, subst}
+use Prim.Native.Nat.{ℕ, zero, suc, _+_, _*_, _^_, _≤_, _<_, zero-le}
+use mathlib.Core.Path.{_≡_, refl, subst}
 use mathlib.Core.Logic.{_⊎_, inl, inr}
 use mathlib.Core.Bool.{Bool, true, false, false≢true}
 use native.Mathlib.Nat.{eq-or-lt-of-le}
@@ -9,9 +9,8 @@ use lib.IntN.{natAbs}
 use lib.ListN.{length}
 use mir.Facts.{and-yes}
 use lib.Dec.{T, leb, eqb, leb→le, eqb→eq}
-use Rattle.integers.specs.Sum.{total}
 use Rattle.definitions.specs.Words.{within}
-use Rattle.definitions.specs.Layout.{Bytes, lastYear, closeness, parts, cells, rowStart, varianceOf, priorMean, priorVariance}
+use Rattle.definitions.specs.Layout.{Bytes, lastYear, closeness, parts, cells, varianceOf, priorMean, priorVariance}
 use Rattle.definitions.specs.Layout.{amount, paid, incurred, fileLength, paidAt, varianceAt, priorVarianceAt, priorMeanAt, amountAt}
 use Rattle.definitions.specs.Refusals.{Check, clear, refuses, unless, _then_, fields, fileCheck}
 use Rattle.definitions.specs.Refusals.{check1, check2, check3, check4, check5, check6, check7, check8, check9, check10}
@@ -103,20 +102,3 @@ file-clear f h =
 
 pub accepted-file : (f : Bytes) → accepted f ≡ true → AcceptedFile f
 accepted-file f h = file-clear f (then-clear {a = fileCheck f} h .first)
-
--- ---- cells: year i's column j is a cell of its block where i + j ≤ J
-
-pub rowStart-is : (J i : ℕ) → i ≤ J + 1 → 2 * rowStart J i + i * i ≡ i * (2 * J + 3)
-unfolding rowStart total
-rowStart-is J zero h = omega arith
-rowStart-is J (suc i) h = omega (arith, rowStart-is J i (omega arith))
-
-pub cell-below : (J i j : ℕ) → i + j ≤ J → rowStart J i + j < cells J
-cell-below J i j h =
-    let d : ℕ = J - (i + j) in
-    let whole : J ≡ i + j + d = omega arith in
-    let start : 2 * rowStart J i + i * i ≡ i * (2 * (i + j + d) + 3) =
-    subst (λ n. 2 * rowStart J i + i * i ≡ i * (2 * n + 3)) whole (rowStart-is J i (omega arith)) in
-    let enough : 2 * (rowStart J i + j + 1) ≤ (J + 1) * (J + 2) =
-    subst (λ n. 2 * (rowStart J i + j + 1) ≤ (n + 1) * (n + 2)) (sym whole) (omega arith) in
-    omega arith

@@ -16,7 +16,8 @@ use Rattle.definitions.specs.Refusals.{amountLimit, partLimit}
 use Rattle.definitions.specs.Loss.{Vector}
 use Rattle.definitions.specs.Observations.{Chain, chainOf, paidStep, incurredStep, lastRatio}
 use Rattle.definitions.specs.Matrix.{own, matrix, rightHand, residueTimes}
-use Rattle.laws.specs.Accepted.{AcceptedFile, Within, cell-below}
+use Rattle.laws.specs.Cells.{cell-below}
+use Rattle.laws.specs.Accepted.{AcceptedFile, Within}
 use Rattle.laws.specs.LogarithmBits.{logarithm-run}
 use Rattle.laws.specs.LogarithmBound.{logIn-at-most}
 use Rattle.laws.specs.PrecisionMatrix.{firstsOf}

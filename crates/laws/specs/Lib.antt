@@ -1,9 +1,11 @@
 -- What follows from the definitions: why the promises hold. To search, not to read.
 --   Tables            a tabulated list: its length, its elements, and two with the same
+--   Filled            an array that is filled from the front
 --   LogarithmBits     the bits stand behind h, and are below T
 --   LogarithmBound    2^L ≤ a^T < 2^(L+2), for any number of squarings; a logarithm is at most that of the limit
 --   LogarithmOrder    the larger the amount, the larger its logarithm
 --   WeightLaws        the weight is positive, falls as the variance grows, and where it lies
+--   Cells             the start of each row, by document 02's formula and table; rows and cells are inside their block
 --   Accepted          what an accepted file holds, field by field
 --   Ranks             parts by index; the matrix by ranks and signs
 --   Quadratic         a loss of quadratics and combinations: matrix, right-hand side, residue, expansion around a mean
@@ -31,10 +33,12 @@
 --   Printed           what the two programs print for every input: by the answer of their last call, and in at most 4,096 bytes
 --   Numbers           a refusal has a number of at least 1
 pub mod Tables
+pub mod Filled
 pub mod LogarithmBits
 pub mod LogarithmBound
 pub mod LogarithmOrder
 pub mod WeightLaws
+pub mod Cells
 pub mod Accepted
 pub mod Ranks
 pub mod Quadratic

@@ -1,5 +1,5 @@
 -- A row that is shown stands inside its file and is never empty: so an empty part is shown exactly where the row is refused.
-use Prim.Native.Nat.{ℕ, _+_, _*_, _-_, _≤_}
+use Prim.Native.Nat.{ℕ, _+_, _≤_}
 use mathlib.Core.Path.{_≡_, refl, sym, ap, _∙_}
 use mathlib.Core.Logic.{_↔_, _≢_}
 use mathlib.Core.List.{[]}
@@ -7,19 +7,16 @@ use native.Mathlib.Nat.{mul-le-mul-right}
 use native.Mathlib.Omega.{arith}
 use lib.Dec.{leb, leb→le}
 use lib.ListN.{length, drop, length-take, length-drop}
-use Rattle.definitions.specs.Layout.{Bytes, lastYear, cells, amountAt, fileLength, rowAt, rowLength, rowBytes}
+use Rattle.definitions.specs.Layout.{Bytes, lastYear, cells, fileLength, rowAt, rowLength, rowBytes}
 use Rattle.definitions.specs.Refusals.{Check, clear, refuses, unless, fileCheck, rowCheck}
 use Rattle.definitions.specs.Machine.{isClear, partUnless, rowPart}
-use Rattle.laws.specs.Accepted.{then-clear, unless-clear, AcceptedFile, file-clear, rowStart-is, cell-below}
-
--- the two blocks end the file
-blocks-end : (J : ℕ) → amountAt J (2 * cells J) ≡ fileLength J
-blocks-end J = omega (arith, rowStart-is J (J + 1) (omega arith))
+use Rattle.laws.specs.Cells.{row-in-block, blocks-end}
+use Rattle.laws.specs.Accepted.{then-clear, unless-clear, AcceptedFile, file-clear}
 
 -- a row is inside its block, and the block is the first or the second
 row-ends : (J channel year : ℕ) → channel ≤ 1 → year ≤ J → rowAt J channel year + rowLength J year ≤ fileLength J
 row-ends J channel year few before =
-    omega (arith, blocks-end J, mul-le-mul-right (cells J) few, cell-below J year (J - year) (omega arith))
+    omega (arith, blocks-end J, mul-le-mul-right (cells J) few, row-in-block J year before)
 
 module _ (f : Bytes) (channel year : ℕ) (shown : rowCheck f channel year ≡ clear) where
   checked : (channel ≤ 1) × (year ≤ lastYear f) × AcceptedFile f

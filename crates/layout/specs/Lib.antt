@@ -2,7 +2,7 @@
 --   Checks       the code's answer as the definitions' check; runs of fields; which checks the code runs together
 --   CheckLaws    laws of the definitions' checks, and what a file that passed them is known to be
 --   PartLimits   the limits of a part, as two comparisons
---   Places       the rows fill the blocks, and each field ends inside the file
+--   Places       each field ends inside the file
 pub mod Checks
 pub mod CheckLaws
 pub mod PartLimits

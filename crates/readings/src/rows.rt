@@ -1,10 +1,10 @@
-// The rows of the two blocks: a row's start, where it stands, and the row itself as a part of the file.
+// The rows of the two blocks: where a row stands, and the row itself as a part of the file.
 ghost use mathlib.Core.Path.{_≡_};
 ghost use Prim.Native.Nat.{_-_, _≤_};
 ghost use mathlib.Core.Bool.{cond};
 ghost use lib.ListN.{length, take, drop};
 ghost use lib.Dec.{eqb};
-ghost use Rattle.definitions.specs.Layout.{rowStart, rowBytes};
+ghost use Rattle.definitions.specs.Layout.{rowBytes};
 ghost use Rattle.definitions.specs.Refusals.{rowCheck};
 ghost use Rattle.definitions.specs.Machine.{rowPart};
 ghost use Rattle.layout.specs.Checks.{told};
@@ -15,21 +15,7 @@ use layout::checks::file::check_file;
 use layout::places::amounts_at;
 use layout::places::cells_of;
 use layout::places::last_year;
-
-// Cells of a block before the row of a year.
-fn row_start(last: u8, year: usize) -> usize
-    requires { ⌜ (last ≤ 15) × (year ≤ last) ⌝ }
-    ensures { λ r. ⌜ r ≡ rowStart last year ⌝ }
-{
-    let columns = last as usize + 1;
-    let mut cells = 0usize;
-    let mut i = 0usize;
-    while i < year {
-        cells += columns - i;
-        i += 1;
-    }
-    cells
-}
+use row_starts::row_start;
 
 // The bytes start..end of the paid block, or of the incurred block.
 fn part<'a>(

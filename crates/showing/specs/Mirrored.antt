@@ -10,8 +10,8 @@ use lib.ListN.{length, set, replicate, length-set, length-replicate}
 use lib.Seq.{ext-getD, getD-set-same, getD-set-other}
 use Rattle.definitions.specs.Words.{part}
 use Rattle.laws.specs.Tables.{tab-at, tabFrom-length}
+use Rattle.laws.specs.Filled.{empty-at}
 use Rattle.chain.specs.Arrays.{cell}
-use Rattle.chain.specs.Filled.{empty-at}
 use Rattle.showing.specs.Shown.{entryShown, matrixShown, entry-below, entry-behind, entry-is}
 
 -- of row k, column l and row l, column k the place on or below the diagonal

@@ -10,8 +10,8 @@ use lib.ListN.{getD, List·getD-eq-default}
 use lib.Seq.{ext-getD}
 use Rattle.definitions.specs.Words.{tabFrom, part}
 use Rattle.laws.specs.Tables.{tab-at, tabFrom-length}
+use Rattle.laws.specs.Filled.{Filled}
 use Rattle.chain.specs.Arrays.{cell}
-use Rattle.chain.specs.Filled.{Filled}
 
 pub record OfParts (count : ℕ) : Type 0 where
   pub few : count ≤ 31

@@ -2,15 +2,17 @@
 use Prim.Native.Nat.{ℕ}
 use mathlib.Core.Path.{_≡_, sym, subst}
 use mathlib.Core.List.{List}
+use native.Mathlib.Omega.{arith}
 use lib.IntN.{ℤ}
 use denote.Ref.{now}
 use Rattle.definitions.specs.Layout.{lastYear, closeness}
 use Rattle.definitions.specs.Matrix.{figuresOf as figuresOfFile}
+use Rattle.row_starts.specs.Starts.{Starts}
 use Rattle.chain.specs.Arrays.{figuresAt, figuresOf}
 use Rattle.figures.specs.Weights.{Owns, Shares}
 use Rattle.figures.specs.Entries.{OfMatrix, MatrixOf}
-use Rattle.figures.specs.Sums.{OfRatios, OfTargets, Targets}
-use Rattle.figures.specs.Gathered.{Arrays, OfFile, file-adds, file-owns, file-shares, file-ratios, file-targets, file-matrix, gathered}
+use Rattle.figures.specs.Sums.{OfRows, OfRatios, OfTargets, Targets}
+use Rattle.figures.specs.Gathered.{Arrays, OfFile, file-adds, file-owns, file-shares, file-rows, file-ratios, file-targets, file-matrix, gathered}
 use borrow.Author.Needs.{needs}
 use Rattle.figures.proofs.figures_in.Statement.{statement}
 use Rattle.figures.proofs.figures_in.Tie as tie
@@ -44,16 +46,25 @@ shares-of G = G .before
 abbrev logs-of : tie.After-prior-means → tie.After-logarithms
 logs-of M = M .before
 
-abbrev means-of : tie.After-ratio-sums → tie.After-prior-means
-means-of Q = Q .before .before .before
+abbrev means-of : tie.After-starts-of → tie.After-prior-means
+means-of N = N .before
+
+abbrev starts-of : tie.After-column-sums → tie.After-starts-of
+starts-of C = C .before .before .before
+
+abbrev columns-of : tie.After-ratio-sums → tie.After-column-sums
+columns-of Q = Q .before .before .before .before
 
 abbrev sums-of : tie.After-right-hand-of → tie.After-ratio-sums
 sums-of T = T .before .before .before .before .before .before
 
 -- what is read and made by the ratio sums
 module _ (Q : tie.After-ratio-sums) where
+  abbrev C : tie.After-column-sums
+  C = columns-of Q
+
   abbrev M : tie.After-prior-means
-  M = means-of Q
+  M = means-of (starts-of C)
 
   abbrev G : tie.After-logarithms
   G = logs-of M
@@ -82,6 +93,7 @@ module _ (Q : tie.After-ratio-sums) where
     logs = G .logarithms .result;
     means = M .prior-means .result;
     sums = S .shares .result;
+    steps = C .column-sums .result;
     ratios = Q .ratio-sums .result;
   }
 
@@ -94,6 +106,7 @@ module _ (Q : tie.After-ratio-sums) where
     logs-are = G .logarithms .ensures;
     means-are = M .prior-means .ensures;
     sums-are = S .shares .ensures;
+    steps-are = C .column-sums .ensures;
     ratios-are = Q .ratio-sums .ensures;
   })
 
@@ -128,20 +141,43 @@ logarithms-requires c κs = search needs
 prior-means-requires : tie.Need-prior-means-requires
 prior-means-requires c κs = search needs
 
+starts-of-requires : tie.Need-starts-of-requires
+starts-of-requires c κs =
+    let Y = year-of (priors-of (own-of (ratios-of (shares-of (logs-of c))))) in
+    omega (arith, year Y, s Y .pre .years .to)
+
+-- the logarithms, and the starts of the rows
+module _ (N : tie.After-starts-of) where
+  abbrev logs : tie.After-logarithms
+  logs = logs-of (means-of N)
+
+  abbrev weights : tie.After-ratio-weights
+  weights = ratios-of (shares-of logs)
+
+  abbrev last : tie.After-last-year
+  last = year-of (priors-of (own-of weights))
+
+  rows : OfRows (logs .logarithms .result) (N .starts-of .result) (lastYear (file last))
+  rows =
+      file-rows (file last) (s last .pre) (logs .logarithms .ensures)
+      (subst (λ n. Starts n (N .starts-of .result)) (year last) (N .starts-of .ensures))
+
+column-sums-requires : tie.Need-column-sums-requires
+column-sums-requires c κs =
+    let N = c .before .before in
+    subst (OfRows (logs N .logarithms .result) (N .starts-of .result)) (sym (year (last N))) (rows N)
+
 ratio-sums-requires : tie.Need-ratio-sums-requires
 ratio-sums-requires c κs =
-    let M = c .before .before in
-    let G = logs-of M in
-    let R = ratios-of (shares-of G) in
-    let Y = year-of (priors-of (own-of R)) in
-    let of-ratios = file-ratios (file Y) (s Y .pre) (R .ratio-weights .ensures) (G .logarithms .ensures) in
-    subst (OfRatios (R .ratio-weights .result) (G .logarithms .result)) (sym (year Y)) of-ratios
+    let N = starts-of (c .before .before .before) in
+    let of-ratios = file-ratios (file (last N)) (s (last N) .pre) (weights N .ratio-weights .ensures) (rows N) in
+    subst (OfRatios (weights N .ratio-weights .result) (logs N .logarithms .result) (N .starts-of .result)) (sym (year (last N))) of-ratios
 
 right-hand-of-requires : tie.Need-right-hand-of-requires
 right-hand-of-requires c κs =
     let Q = c .before .before .before .before .before in
     let a = arrays Q in
-    subst (OfTargets (a .priors) (a .means) (a .columns) (a .logs) (a .ratios)) (sym (year (Y Q)))
+    subst (OfTargets (a .priors) (a .means) (a .columns) (a .steps) (a .ratios)) (sym (year (Y Q)))
     (file-targets (file (Y Q)) (s (Y Q) .pre) (of-file Q))
 
 fill-matrix-requires : tie.Need-fill-matrix-requires
@@ -169,7 +205,7 @@ module _ (A : tie.After-fill-matrix) where
       let a = arrays Q in
       let e = year (Y Q) in
       gathered bytes (s (Y Q) .pre) (of-file Q)
-      (subst (λ n. Targets (a .priors) (a .means) (a .columns) (a .logs) (a .ratios) n (T .right-hand-of .result)) e (T .right-hand-of .ensures))
+      (subst (λ n. Targets (a .priors) (a .means) (a .columns) (a .steps) (a .ratios) n (T .right-hand-of .result)) e (T .right-hand-of .ensures))
       (subst (λ n. MatrixOf (a .own) (a .sums) n filled) e (A .fill-matrix .ensures))
 
 returns : tie.Need-returns
@@ -178,4 +214,4 @@ returns c = (figures-are c, of-file (Q c) .means-are)
 pub figures-in-spec : {M : Type 1} → statement M
 figures-in-spec = tie.close (tie.spec
     last-year-requires column-weights-requires prior-weights-requires own-weights-requires ratio-weights-requires shares-requires
-    logarithms-requires prior-means-requires ratio-sums-requires right-hand-of-requires fill-matrix-requires returns)
+    logarithms-requires prior-means-requires starts-of-requires column-sums-requires ratio-sums-requires right-hand-of-requires fill-matrix-requires returns)

@@ -15,13 +15,13 @@ use Rattle.integers.specs.Sum.{sum, sum-next}
 use Rattle.integers.specs.Total.{sizes, total-next}
 use Rattle.definitions.specs.Words.{part}
 use Rattle.definitions.specs.Layout.{parts}
+use Rattle.laws.specs.Filled.{empty-at}
 use Rattle.chain.specs.Arrays.{meanOf, cell, cell-at, cell-mirrored, rowProduct}
 use Rattle.chain.specs.Bits.{stored, read}
 use Rattle.chain.specs.Decides.{decided-yes, decided-no, not-yes, not-no}
 use Rattle.chain.specs.Fitting.{Inside, rowLimit, residueLimit}
 use Rattle.chain.specs.Residues.{OfMean, RowFits, RowsFit}
 use Rattle.chain.specs.Sizes.{row-fits, sum-fits, difference-fits, mean-at, residue-at}
-use Rattle.chain.specs.Filled.{empty-at}
 use Rattle.chain.specs.Turned.{Turned, turned-none, turned-next, turned-as, here-or-before}
 use Rattle.chain.proofs.residues.residues.Statement.{statement}
 use Rattle.chain.proofs.residues.residues.Tie as tie

@@ -10,8 +10,8 @@ use mir.Val.{toZ, ofZ}
 use Rattle.integers.specs.Size.{fits, kept, natAbs-neg}
 use Rattle.integers.specs.Solver.{ring, _⊟_, ⊖_, num, _≐_}
 use Rattle.definitions.specs.Words.{part}
+use Rattle.laws.specs.Filled.{Filled, filled-none, filled-next}
 use Rattle.chain.specs.Bits.{read}
-use Rattle.chain.specs.Filled.{Filled, filled-none, filled-next}
 use Rattle.figures.proofs.matrix.turned_shares.Statement.{statement}
 use Rattle.figures.proofs.matrix.turned_shares.Tie as tie
 

@@ -5,7 +5,7 @@ use native.Mathlib.Omega.{arith}
 use denote.Ref.{now}
 use Rattle.definitions.specs.Layout.{lastYear, parts, varianceOf}
 use Rattle.definitions.specs.Weight.{weight}
-use Rattle.chain.specs.Filled.{Filled, filled-none, filled-next, filled-to}
+use Rattle.laws.specs.Filled.{Filled, filled-none, filled-next, filled-to}
 use Rattle.figures.proofs.reading.column_weights.Statement.{statement}
 use Rattle.figures.proofs.reading.column_weights.Tie as tie
 

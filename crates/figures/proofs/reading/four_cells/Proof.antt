@@ -7,9 +7,9 @@ use lib.Signed.{mag}
 use denote.Ref.{now}
 use Rattle.definitions.specs.Layout.{lastYear}
 use Rattle.definitions.specs.Logarithm.{logarithm}
+use Rattle.laws.specs.Cells.{cells-few}
+use Rattle.laws.specs.Filled.{filled-four}
 use Rattle.chain.specs.Bits.{stored, same}
-use Rattle.chain.specs.Filled.{filled-four}
-use Rattle.figures.specs.Reading.{cells-few}
 use borrow.Author.Needs.{needs}
 use Rattle.figures.proofs.reading.four_cells.Statement.{statement}
 use Rattle.figures.proofs.reading.four_cells.Tie as tie

@@ -6,9 +6,10 @@ use lib.IntN.{pos}
 use denote.Ref.{now}
 use Rattle.definitions.specs.Layout.{lastYear, cells}
 use Rattle.definitions.specs.Logarithm.{logarithm}
+use Rattle.laws.specs.Cells.{cells-few}
+use Rattle.laws.specs.Filled.{filled-none, filled-next, filled-to}
 use Rattle.chain.specs.Bits.{same}
-use Rattle.chain.specs.Filled.{filled-none, filled-next, filled-to}
-use Rattle.figures.specs.Reading.{CellsTo, cells-few}
+use Rattle.figures.specs.Reading.{CellsTo}
 use Rattle.figures.proofs.reading.logarithms.Statement.{statement}
 use Rattle.figures.proofs.reading.logarithms.Tie as tie
 

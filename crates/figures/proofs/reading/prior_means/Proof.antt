@@ -5,7 +5,7 @@ use native.Mathlib.Omega.{arith}
 use lib.IntN.{pos}
 use denote.Ref.{now}
 use Rattle.definitions.specs.Layout.{lastYear, parts, priorMean}
-use Rattle.chain.specs.Filled.{Filled, filled-none, filled-next, filled-to}
+use Rattle.laws.specs.Filled.{Filled, filled-none, filled-next, filled-to}
 use Rattle.chain.specs.Bits.{same}
 use Rattle.figures.proofs.reading.prior_means.Statement.{statement}
 use Rattle.figures.proofs.reading.prior_means.Tie as tie

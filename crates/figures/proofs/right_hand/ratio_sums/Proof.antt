@@ -1,44 +1,43 @@
--- `figures::right_hand::ratio_sums` meets its contract. The loop's invariant: the sums up to development year d are there, and `at`
--- is the last cell of the accident year J − d.
+-- `figures::right_hand::ratio_sums` meets its contract. The loop's invariant: the sums up to development year d are there.
 use Prim.Native.Nat.{ℕ, _+_, _*_, _-_, _^_, _≤_, _<_}
-use mathlib.Core.Path.{_≡_, refl, sym, ap₂, _∙_}
+use mathlib.Core.Path.{_≡_, refl, sym, ap, ap₂, subst, _∙_}
 use mathlib.Core.List.{List}
 use native.Mathlib.Omega.{arith}
 use lib.IntN.{ℤ, pos, natAbs, _+ℤ_, _-ℤ_, _*ℤ_}
 use denote.Ref.{now}
 use mir.Syntax.{w64}
-use mir.Val.{toZ}
+use mir.Val.{toZ, Fits}
 use Rattle.integers.specs.Size.{fits, kept}
 use Rattle.integers.specs.Sum.{sum, sum-next}
 use Rattle.integers.specs.Size.{natAbs-*-≤}
 use Rattle.definitions.specs.Words.{part}
 use Rattle.definitions.specs.Layout.{cells}
+use Rattle.laws.specs.Cells.{cells-few}
 use Rattle.chain.specs.Bits.{stored, read}
-use Rattle.figures.specs.Reading.{cells-few}
 use Rattle.figures.specs.Weights
 use Rattle.figures.specs.Weights.{Summed}
 use Rattle.figures.specs.WeightLaws.{summed-none, summed-next}
-use Rattle.figures.specs.Sums.{lastCell, ratioOf}
-use Rattle.figures.specs.SumLaws.{lastCell-first, lastCell-next, lastCell-below, difference-small, sum-small}
+use Rattle.figures.specs.Sums.{Logs, lastCell, ratioOf}
+use Rattle.figures.specs.SumLaws.{row-at, lastCell-below, difference-small, sum-small}
 use Rattle.figures.proofs.right_hand.ratio_sums.Statement.{statement}
 use Rattle.figures.proofs.right_hand.ratio_sums.Tie as tie
 use mir.Facts.{toZ-pos}
 
 abbrev Inv-loop : tie.InvT-loop
-Inv-loop weights logs last years cells sums₀ total₀ at₀ d₀ sums total at d =
-    (d ≤ years) × (at ≡ lastCell last d) × Summed d (λ y. pos (Weights.at weights y) *ℤ ratioOf logs last y) (toZ w64 total) sums
+Inv-loop weights logs starts last years cells sums₀ total₀ d₀ sums total d =
+    (d ≤ years) × Summed d (λ y. pos (Weights.at weights y) *ℤ ratioOf logs last y) (toZ w64 total) sums
 
 abbrev μ-loop : tie.MeasureT-loop
-μ-loop weights logs last years cells sums₀ total₀ at₀ d₀ sums total at d = years - d
+μ-loop weights logs starts last years cells sums₀ total₀ d₀ sums total d = years - d
 
 cells-of-requires : tie.Need-cells-of-requires Inv-loop μ-loop
 cells-of-requires c κs = tt
 
-sub-at : tie.Need-sub-at Inv-loop μ-loop
-sub-at c = omega arith
-
 loop-holds : tie.Need-loop-holds Inv-loop μ-loop
-loop-holds c = (omega arith, omega (arith, c .cells-of .ensures, lastCell-first (c .before .args .last)), summed-none _)
+loop-holds c = (omega arith, summed-none _)
+
+sub-year : tie.Need-sub-year Inv-loop μ-loop
+sub-year c = omega arith
 
 -- the next weight and logarithms, as they are read
 module _ (c : tie.In-loop Inv-loop μ-loop) where
@@ -48,14 +47,14 @@ module _ (c : tie.In-loop Inv-loop μ-loop) where
   abbrev d : ℕ
   d = c .before .loop .d
 
+  abbrev J : ℕ
+  J = s .args .last
+
   abbrev at : ℕ
-  at = c .before .loop .at
+  at = Weights.at (now (s .args .starts)) (J - d) + d
 
   abbrev cell : ℕ
   cell = c .before .before .cells-of .result
-
-  abbrev J : ℕ
-  J = s .args .last
 
   abbrev weight : ℕ → ℕ
   weight = Weights.at (now (s .args .weights))
@@ -63,20 +62,32 @@ module _ (c : tie.In-loop Inv-loop μ-loop) where
   abbrev logs : List ℤ
   logs = now (s .args .logs)
 
+  abbrev small : Logs logs J
+  small = s .pre .of-rows .logs-small
+
   abbrev term : ℕ → ℤ
   term y = pos (weight y) *ℤ ratioOf logs J y
 
+  more : d < J
+  more = c .loop-test .taken
+
+  at-is : at ≡ lastCell J d
+  at-is = ap (λ n. n + d) (row-at (s .pre .of-rows) (J - d) (omega arith))
+
+  cell-is : cell ≡ cells J
+  cell-is = c .before .before .cells-of .ensures
+
   inside : at < cells J
-  inside = omega (arith, c .before .loop .inv .1, lastCell-below J d (omega (arith, c .loop-test .taken)))
+  inside = omega (arith, at-is, lastCell-below J d (omega (arith, more)))
 
   in-array : cell + at < 272
-  in-array = omega (arith, inside, c .before .before .cells-of .ensures, cells-few J (s .pre .logs-small .few))
+  in-array = omega (arith, inside, cell-is, cells-few J (small .few))
 
   weight-small : weight d ≤ 2 ^ 27
-  weight-small = s .pre .weights-small d (c .loop-test .taken)
+  weight-small = s .pre .weights-small d more
 
   log-at : (n : ℕ) → n < 2 * cells J → stored (part logs n) ≡ part logs n
-  log-at n below = read (part logs n) (omega (arith, s .pre .logs-small .small n below))
+  log-at n below = read (part logs n) (omega (arith, small .small n below))
 
   -- the ratio as it is read
   abbrev readRatio : ℤ
@@ -84,16 +95,16 @@ module _ (c : tie.In-loop Inv-loop μ-loop) where
 
   ratio : readRatio ≡ ratioOf logs J d
   ratio =
-      ap₂ _-ℤ_ (log-at (cell + at) (omega (arith, inside, c .before .before .cells-of .ensures))) (log-at at (omega (arith, inside)))
-      ∙ ap₂ (λ m n. part logs (m + n) -ℤ part logs n) (c .before .before .cells-of .ensures) (c .before .loop .inv .1)
+      ap₂ _-ℤ_ (log-at (cell + at) (omega (arith, inside, cell-is))) (log-at at (omega (arith, inside)))
+      ∙ ap₂ (λ m n. part logs (m + n) -ℤ part logs n) cell-is at-is
 
   ratios-small : (y : ℕ) → y ≤ J → natAbs (ratioOf logs J y) ≤ 2 ^ 27
   ratios-small y few =
       let below = lastCell-below J y few in
-      difference-small logs J (cells J + lastCell J y) (lastCell J y) (s .pre .logs-small) (omega arith) (omega arith)
+      difference-small logs J (cells J + lastCell J y) (lastCell J y) (small) (omega arith) (omega arith)
 
   ratio-small : natAbs (ratioOf logs J d) < 2 ^ 63
-  ratio-small = omega (arith, ratios-small d (omega (arith, c .loop-test .taken)))
+  ratio-small = omega (arith, ratios-small d (omega (arith, more)))
 
   product : toZ w64 (weight d) *ℤ stored readRatio ≡ term d
   product = ap₂ _*ℤ_ (toZ-pos w64 (omega (arith, weight-small))) (kept w64 ratio ratio-small)
@@ -102,54 +113,59 @@ module _ (c : tie.In-loop Inv-loop μ-loop) where
   products-small y below = natAbs-*-≤ (pos (weight y)) (ratioOf logs J y) (s .pre .weights-small y below) (ratios-small y (omega arith))
 
   product-small : natAbs (term d) < 2 ^ 63
-  product-small = omega (arith, products-small d (c .loop-test .taken))
+  product-small = omega (arith, products-small d more)
 
   next : toZ w64 (c .before .loop .total) +ℤ stored (toZ w64 (weight d) *ℤ stored readRatio) ≡ sum (d + 1) term
-  next = ap₂ _+ℤ_ (c .before .loop .inv .2 .at-hand) (kept w64 product product-small) ∙ sym (sum-next d term)
+  next = ap₂ _+ℤ_ (c .before .loop .inv .1 .at-hand) (kept w64 product product-small) ∙ sym (sum-next d term)
 
   next-small : natAbs (sum (d + 1) term) < 2 ^ 63
   next-small =
-      let more = c .loop-test .taken in
-      sum-small (d + 1) term (omega (arith, s .pre .logs-small .few)) (λ y below. omega (arith, products-small y (omega arith)))
+      sum-small (d + 1) term (omega (arith, more, small .few)) (λ y below. omega (arith, products-small y (omega (arith, more))))
+
+mul-at : tie.Need-mul-at Inv-loop μ-loop
+mul-at c = omega (arith, small c .few)
+
+element-copy-out-at : tie.Need-element-copy-out-at Inv-loop μ-loop
+element-copy-out-at c = omega (arith, small c .few)
+
+add-at : tie.Need-add-at Inv-loop μ-loop
+add-at c = let l = c .before in subst (Fits w64) (sym (at-is l)) (record { fits = omega (arith, in-array l, at-is l) })
 
 mul-total : tie.Need-mul-total Inv-loop μ-loop
-mul-total c = omega (arith, c .loop-test .taken, s c .pre .logs-small .few)
+mul-total c = omega (arith, more (c .before), small (c .before) .few)
 
 element-copy-out-total : tie.Need-element-copy-out-total Inv-loop μ-loop
-element-copy-out-total c = omega (arith, c .loop-test .taken, s c .pre .logs-small .few)
+element-copy-out-total c = omega (arith, more (c .before), small (c .before) .few)
 
 cast-total : tie.Need-cast-total Inv-loop μ-loop
-cast-total c = fits refl (omega (arith, weight-small (c .before)))
+cast-total c = fits refl (omega (arith, weight-small (c .before .before)))
 
 add-total : tie.Need-add-total Inv-loop μ-loop
-add-total c = omega (arith, in-array (c .before))
+add-total c = omega (arith, in-array (c .before .before))
 
 mul-total-2 : tie.Need-mul-total-2 Inv-loop μ-loop
-mul-total-2 c = omega (arith, in-array (c .before))
+mul-total-2 c = omega (arith, in-array (c .before .before))
 
 element-copy-out-total-2 : tie.Need-element-copy-out-total-2 Inv-loop μ-loop
-element-copy-out-total-2 c = omega (arith, in-array (c .before))
+element-copy-out-total-2 c = omega (arith, in-array (c .before .before))
 
 mul-total-3 : tie.Need-mul-total-3 Inv-loop μ-loop
-mul-total-3 c = omega (arith, in-array (c .before .before))
+mul-total-3 c = omega (arith, in-array (c .before .before .before))
 
 element-copy-out-total-3 : tie.Need-element-copy-out-total-3 Inv-loop μ-loop
-element-copy-out-total-3 c = omega (arith, in-array (c .before .before))
+element-copy-out-total-3 c = omega (arith, in-array (c .before .before .before))
 
 sub-total : tie.Need-sub-total Inv-loop μ-loop
-sub-total c = let l = c .before .before .before in fits (ratio l) (ratio-small l)
+sub-total c = let l = c .before .before .before .before in fits (ratio l) (ratio-small l)
 
 mul-total-4 : tie.Need-mul-total-4 Inv-loop μ-loop
-mul-total-4 c = let l = c .before .before .before in fits (product l) (product-small l)
+mul-total-4 c = let l = c .before .before .before .before in fits (product l) (product-small l)
 
 add-total-2 : tie.Need-add-total-2 Inv-loop μ-loop
-add-total-2 c = let l = c .before .before .before in fits (next l) (next-small l)
+add-total-2 c = let l = c .before .before .before .before in fits (next l) (next-small l)
 
 add-d : tie.Need-add-d Inv-loop μ-loop
 add-d c = omega arith
-
-sub-at-2 : tie.Need-sub-at-2 Inv-loop μ-loop
-sub-at-2 c = let l = c .before .before .before in omega (arith, l .before .loop .inv .1, lastCell-next (s l .args .last) (d l) (l .loop-test .taken))
 
 mul-sums : tie.Need-mul-sums Inv-loop μ-loop
 mul-sums c = omega arith
@@ -162,19 +178,14 @@ loop-less c = omega arith
 
 loop-again : tie.Need-loop-again Inv-loop μ-loop
 loop-again c =
-    let l = c .before .before .before in
-    let y = l .before .loop in
-    let more = l .loop-test .taken in (
-      omega arith,
-      omega (arith, y .inv .1, lastCell-next (s l .args .last) (y .d) more),
-      summed-next (y .inv .2) (omega (arith, s l .pre .logs-small .few)) (kept w64 (next l) (next-small l)),
-    )
+    let l = c .before .before .before .before in
+    (omega arith, summed-next (l .before .loop .inv .1) (omega (arith, more l, small l .few)) (kept w64 (next l) (next-small l)))
 
 returns : tie.Need-returns Inv-loop μ-loop
-returns c = record { is = λ n few. c .before .loop .inv .2 .there n (omega arith) }
+returns c = record { is = λ n few. c .before .loop .inv .1 .there n (omega arith) }
 
 pub ratio-sums-spec : {M : Type 1} → statement M
 ratio-sums-spec = tie.close (tie.spec
-    Inv-loop μ-loop cells-of-requires sub-at loop-holds mul-total element-copy-out-total cast-total add-total mul-total-2
-    element-copy-out-total-2 mul-total-3 element-copy-out-total-3 sub-total mul-total-4 add-total-2 add-d sub-at-2 mul-sums
+    Inv-loop μ-loop cells-of-requires loop-holds sub-year mul-at element-copy-out-at add-at mul-total element-copy-out-total cast-total
+    add-total mul-total-2 element-copy-out-total-2 mul-total-3 element-copy-out-total-3 sub-total mul-total-4 add-total-2 add-d mul-sums
     array-set-from-sums loop-less loop-again returns)

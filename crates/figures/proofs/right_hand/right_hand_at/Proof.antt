@@ -12,10 +12,9 @@ use Rattle.integers.specs.Size.{fits, kept, natAbs-+, natAbs--, natAbs-*-≤}
 use Rattle.definitions.specs.Words.{part}
 use Rattle.definitions.specs.Matrix.{partOf}
 use Rattle.laws.specs.Ranks.{rankOf, rank-below}
-use Rattle.chain.specs.Bits.{stored, read, same}
+use Rattle.chain.specs.Bits.{stored, read}
 use Rattle.figures.specs.Weights.{at}
-use Rattle.figures.specs.Sums.{columnSum}
-use Rattle.figures.specs.SumLaws.{columnSum-small, target-phi, target-psi}
+use Rattle.figures.specs.SumLaws.{target-phi, target-psi}
 use borrow.Author.Needs.{needs}
 use Rattle.figures.proofs.right_hand.right_hand_at.Statement.{statement}
 use Rattle.figures.proofs.right_hand.right_hand_at.Tie as tie
@@ -35,7 +34,7 @@ module _ (s : tie.Start) where
   weight = at (now (s .args .columns)) k
 
   abbrev columnTotal : ℤ
-  columnTotal = columnSum (now (s .args .logs)) (s .args .last) k
+  columnTotal = part (now (s .args .sums)) k
 
   prior-small : priorWeight ≤ 2 ^ 28
   prior-small = s .pre .of-targets .priors-small k (s .pre .below)
@@ -47,10 +46,13 @@ module _ (s : tie.Start) where
   column-small = s .pre .of-targets .columns-small k (s .pre .below)
 
   total-small : natAbs columnTotal ≤ 2 ^ 31
-  total-small = columnSum-small (now (s .args .logs)) (s .args .last) k (s .pre .of-targets .logs-small) (s .pre .below)
+  total-small = s .pre .of-targets .sums-small k (s .pre .below)
 
   prior : toZ w64 priorWeight *ℤ stored mean ≡ pos priorWeight *ℤ mean
   prior = ap₂ _*ℤ_ (toZ-pos w64 (omega (arith, prior-small))) (read mean (omega (arith, mean-small)))
+
+  column : toZ w64 weight *ℤ stored columnTotal ≡ pos weight *ℤ columnTotal
+  column = ap₂ _*ℤ_ (toZ-pos w64 (omega (arith, column-small))) (read columnTotal (omega (arith, total-small)))
 
   prior-product : natAbs (pos priorWeight *ℤ mean) ≤ 2 ^ 54
   prior-product = natAbs-*-≤ (pos priorWeight) mean prior-small mean-small
@@ -64,31 +66,20 @@ module _ (s : tie.Start) where
   own-small : natAbs own-sum ≤ 2 ^ 60
   own-small = omega (arith, prior-product, column-product, natAbs-+ (pos priorWeight *ℤ mean) (pos weight *ℤ columnTotal))
 
--- the part's own sum, as it is stored
-module _ (c : tie.After-column-sum) where
-  abbrev start : tie.Start
-  start = c .before .before .before .before
-
-  abbrev columnProduct : ℤ
-  columnProduct = toZ w64 (weight start) *ℤ stored (c .column-sum .result)
-
-  column : columnProduct ≡ pos (weight start) *ℤ columnTotal start
-  column =
-      ap₂ _*ℤ_ (toZ-pos w64 (omega (arith, column-small start))) (same (c .column-sum .result) (c .column-sum .ok) ∙ c .column-sum .ensures)
-
+  -- the part's own sum, as it is stored
   abbrev ownSum : ℤ
-  ownSum = stored (toZ w64 (priorWeight start) *ℤ stored (mean start)) +ℤ stored columnProduct
+  ownSum = stored (toZ w64 priorWeight *ℤ stored mean) +ℤ stored (toZ w64 weight *ℤ stored columnTotal)
 
-  own : ownSum ≡ own-sum start
-  own = ap₂ _+ℤ_ (kept w64 (prior start) (omega (arith, prior-product start))) (kept w64 column (omega (arith, column-product start)))
+  own : ownSum ≡ own-sum
+  own = ap₂ _+ℤ_ (kept w64 prior (omega (arith, prior-product))) (kept w64 column (omega (arith, column-product)))
 
-  own-kept : stored ownSum ≡ own-sum start
-  own-kept = kept w64 own (omega (arith, own-small start))
+  own-kept : stored ownSum ≡ own-sum
+  own-kept = kept w64 own (omega (arith, own-small))
 
 -- and with what it shares
 module _ (c : tie.After-rank-of) where
   abbrev begin : tie.Start
-  begin = start (c .before)
+  begin = c .before .before .before .before .before
 
   abbrev J : ℕ
   J = begin .args .last
@@ -112,15 +103,15 @@ module _ (c : tie.After-rank-of) where
   ratio = ap (λ n. stored (part ratios n)) (c .rank-of .ensures) ∙ read (part ratios rank) (omega (arith, ratio-small))
 
   -- of a Φ
-  added : stored (ownSum (c .before)) +ℤ stored (part ratios (c .rank-of .result)) ≡ own-sum begin +ℤ part ratios rank
-  added = ap₂ _+ℤ_ (own-kept (c .before)) ratio
+  added : stored (ownSum begin) +ℤ stored (part ratios (c .rank-of .result)) ≡ own-sum begin +ℤ part ratios rank
+  added = ap₂ _+ℤ_ (own-kept begin) ratio
 
   added-small : natAbs (own-sum begin +ℤ part ratios rank) < 2 ^ 63
   added-small = omega (arith, own-small begin, ratio-small, natAbs-+ (own-sum begin) (part ratios rank))
 
   -- of a Ψ
-  subtracted : stored (ownSum (c .before)) -ℤ stored (part ratios (c .rank-of .result)) ≡ own-sum begin -ℤ part ratios rank
-  subtracted = ap₂ _-ℤ_ (own-kept (c .before)) ratio
+  subtracted : stored (ownSum begin) -ℤ stored (part ratios (c .rank-of .result)) ≡ own-sum begin -ℤ part ratios rank
+  subtracted = ap₂ _-ℤ_ (own-kept begin) ratio
 
   subtracted-small : natAbs (own-sum begin -ℤ part ratios rank) < 2 ^ 63
   subtracted-small = omega (arith, own-small begin, ratio-small, natAbs-- (own-sum begin) (part ratios rank))
@@ -152,23 +143,26 @@ element-copy-out-own-3 c = search needs
 cast-own-2 : tie.Need-cast-own-2
 cast-own-2 c = fits refl (omega (arith, column-small (c .before .before .before)))
 
-column-sum-requires : tie.Need-column-sum-requires
-column-sum-requires c κs = search needs
-
 mul-own-5 : tie.Need-mul-own-5
-mul-own-5 c = fits (column c) (omega (arith, column-product (start c)))
+mul-own-5 c = search needs
+
+element-copy-out-own-4 : tie.Need-element-copy-out-own-4
+element-copy-out-own-4 c = search needs
+
+mul-own-6 : tie.Need-mul-own-6
+mul-own-6 c = let s = c .before .before .before .before in fits (column s) (omega (arith, column-product s))
 
 add-own : tie.Need-add-own
-add-own c = fits (own c) (omega (arith, own-small (start c)))
+add-own c = let s = c .before .before .before .before in fits (own s) (omega (arith, own-small s))
 
 rank-of-requires : tie.Need-rank-of-requires
 rank-of-requires c κs = search needs
 
 mul-shared : tie.Need-mul-shared
-mul-shared c = omega (arith, rank-small c, begin c .pre .of-targets .logs-small .few)
+mul-shared c = omega (arith, rank-small c, begin c .pre .of-targets .few)
 
 element-copy-out-shared : tie.Need-element-copy-out-shared
-element-copy-out-shared c = omega (arith, rank-small c, begin c .pre .of-targets .logs-small .few)
+element-copy-out-shared c = omega (arith, rank-small c, begin c .pre .of-targets .few)
 
 add-result : tie.Need-add-result
 add-result c = fits (added (c .before .before)) (added-small (c .before .before))
@@ -189,5 +183,5 @@ returns-2 c =
 pub right-hand-at-spec : {M : Type 1} → statement M
 right-hand-at-spec = tie.close (tie.spec
     mul-own element-copy-out-own cast-own mul-own-2 element-copy-out-own-2 mul-own-3 mul-own-4 element-copy-out-own-3 cast-own-2
-    column-sum-requires mul-own-5 add-own rank-of-requires mul-shared element-copy-out-shared add-result returns sub-result
+    mul-own-5 element-copy-out-own-4 mul-own-6 add-own rank-of-requires mul-shared element-copy-out-shared add-result returns sub-result
     returns-2)

@@ -3,18 +3,18 @@ use Prim.Native.Nat.{_-_, _≤_, _<_}
 use mathlib.Core.Path.{_∙_}
 use native.Mathlib.Omega.{arith}
 use lib.IntN.{pos}
+use Rattle.laws.specs.Filled.{Filled, filled-none, filled-next, filled-to}
 use Rattle.chain.specs.Bits.{same}
-use Rattle.chain.specs.Filled.{Filled, filled-none, filled-next, filled-to}
 use Rattle.figures.specs.Sums.{targetFrom}
 use Rattle.figures.proofs.right_hand.right_hand_of.Statement.{statement}
 use Rattle.figures.proofs.right_hand.right_hand_of.Tie as tie
 
 abbrev Inv-loop : tie.InvT-loop
-Inv-loop priors means columns logs ratios last count targets₀ k₀ targets k =
-    (k ≤ count) × Filled 31 k (pos 0) (targetFrom priors means columns logs ratios last) targets
+Inv-loop priors means columns sums ratios last count targets₀ k₀ targets k =
+    (k ≤ count) × Filled 31 k (pos 0) (targetFrom priors means columns sums ratios last) targets
 
 abbrev μ-loop : tie.MeasureT-loop
-μ-loop priors means columns logs ratios last count targets₀ k₀ targets k = count - k
+μ-loop priors means columns sums ratios last count targets₀ k₀ targets k = count - k
 
 mul-count : tie.Need-mul-count Inv-loop μ-loop
 mul-count c = omega arith
@@ -43,7 +43,7 @@ loop-less c = omega arith
 loop-again : tie.Need-loop-again Inv-loop μ-loop
 loop-again c =
     let l = c .before .before in
-    let room : l .loop .k < 31 = omega (arith, c .before .loop-test .taken, l .before .pre .logs-small .few) in
+    let room : l .loop .k < 31 = omega (arith, c .before .loop-test .taken, l .before .pre .few) in
     let target = same (c .right-hand-at .result) (c .right-hand-at .ok) ∙ c .right-hand-at .ensures in
     (omega arith, filled-next (l .loop .inv .1) room target)
 

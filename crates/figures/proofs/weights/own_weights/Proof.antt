@@ -5,7 +5,7 @@ use native.Mathlib.Nat.{mul-le-mul}
 use native.Mathlib.Omega.{arith}
 use denote.Ref.{now}
 use Rattle.definitions.specs.Layout.{parts}
-use Rattle.chain.specs.Filled.{Filled, filled-none, filled-next, filled-to}
+use Rattle.laws.specs.Filled.{Filled, filled-none, filled-next, filled-to}
 use Rattle.figures.specs.Weights.{at, observations}
 use Rattle.figures.specs.WeightLaws.{observations-few}
 use Rattle.figures.proofs.weights.own_weights.Statement.{statement}

@@ -6,7 +6,7 @@ use mathlib.Core.Path.{_≡_, ap, ap₂, _∙_}
 use Prim.Native.Nat.{ℕ, _+_, _*_, _-_, _≤_}
 use lib.ListN.{length}
 use Rattle.definitions.specs.Layout.{lastYear, cells, rowStart, amountAt, rowLength}
-use Rattle.layout.specs.Places.{row-inside, amounts-end}
+use Rattle.laws.specs.Cells.{row-in-block, blocks-end}
 use borrow.Author.Needs.{needs}
 use Rattle.readings.proofs.rows.row_place.Statement.{statement}
 use Rattle.readings.proofs.rows.row_place.Tie as tie
@@ -44,8 +44,8 @@ inside c =
       start c,
       c .before .before .last-year .ensures,
       before-block (d .args .channel) (c .before .cells-of .result) (d .pre .channel),
-      row-inside (J (c .before)) (d .args .year) (d .pre .year),
-      amounts-end (J (c .before)),
+      row-in-block (J (c .before)) (d .args .year) (d .pre .year),
+      blocks-end (J (c .before)),
       d .pre .file .whole,
     )
 
@@ -59,7 +59,7 @@ mul-cells : tie.Need-mul-cells
 mul-cells c =
     let d = c .before .before .before in
     let one-block = before-block (d .args .channel) (c .cells-of .result) (d .pre .channel) in
-    omega (arith, block c, one-block, amounts-end (J c), d .pre .file .whole)
+    omega (arith, block c, one-block, blocks-end (J c), d .pre .file .whole)
 
 row-start-requires : tie.Need-row-start-requires
 row-start-requires c κs = search needs

@@ -6,7 +6,7 @@ use Prim.Native.Nat.{ℕ, _+_, _*_, _-_, _≤_}
 use lib.ListN.{length, length-take, length-drop}
 use lib.Dec.{eqb}
 use Rattle.definitions.specs.Layout.{lastYear, cells, rowStart, amountAt}
-use Rattle.layout.specs.Places.{row-inside, amounts-end}
+use Rattle.laws.specs.Cells.{row-in-block, blocks-end}
 use Rattle.readings.proofs.Parts.{row-bytes}
 use borrow.Author.Needs.{needs}
 use Rattle.readings.proofs.rows.shown_row.Statement.{statement}
@@ -23,14 +23,14 @@ start c = c .row-start .ensures ∙ ap (λ n. rowStart n (c .before .before .bef
 
 blocks : (c : tie.After-cells-of)
     → c .before .amounts-at .result + 8 * c .cells-of .result + 8 * c .cells-of .result ≡ length (now (c .before .before .before .before .args .s))
-blocks c = omega (arith, block c, amounts-end (J c), c .before .before .before .before .pre .file .whole)
+blocks c = omega (arith, block c, blocks-end (J c), c .before .before .before .before .pre .file .whole)
 
 inside : (c : tie.After-row-start)
     → let year = c .before .before .before .before .before .args .year in
     c .row-start .result + (c .before .before .before .last-year .result + 1 - year) ≤ c .before .cells-of .result
 inside c =
     let d = c .before .before .before .before .before in
-    omega (arith, block (c .before), start c, row-inside (J (c .before)) (d .args .year) (d .pre .year))
+    omega (arith, block (c .before), start c, row-in-block (J (c .before)) (d .args .year) (d .pre .year))
 
 last-year-requires : tie.Need-last-year-requires
 last-year-requires c κs = search needs

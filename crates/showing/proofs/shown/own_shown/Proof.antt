@@ -3,7 +3,7 @@ use Prim.Native.Nat.{_-_, _≤_, _<_}
 use mathlib.Core.Path.{refl}
 use native.Mathlib.Omega.{arith}
 use lib.ListN.{getD}
-use Rattle.chain.specs.Filled.{Filled, filled-none, filled-next, filled-to}
+use Rattle.laws.specs.Filled.{Filled, filled-none, filled-next, filled-to}
 use Rattle.showing.specs.Shown.{filled-is}
 use Rattle.showing.proofs.shown.own_shown.Statement.{statement}
 use Rattle.showing.proofs.shown.own_shown.Tie as tie

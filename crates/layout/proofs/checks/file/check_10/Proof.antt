@@ -2,14 +2,15 @@
 -- Assumes nothing.
 use denote.Ref.{now}
 use mathlib.Core.Path.{_≡_, sym, ap, _∙_}
-use Prim.Native.Nat.{_+_, _*_, _≤_, ℕ}
+use Prim.Native.Nat.{_+_, _*_, _≤_, ℕ, zero-le}
 use native.Mathlib.Omega.{arith}
 use borrow.Author.Tests.{eq-eqb, ne-eqb}
 use lib.ListN.{length}
 use Rattle.definitions.specs.Layout.{Bytes, unsigned, lastYear, cells, paidAt, incurredAt, paid, incurred}
 use Rattle.definitions.specs.Refusals.{check10, refuses}
+use Rattle.laws.specs.Cells.{rowStart-is, row-in-block}
 use Rattle.layout.specs.Checks.{Whole}
-use Rattle.layout.specs.Places.{row-start-zero, row-inside, amount-inside}
+use Rattle.layout.specs.Places.{amount-inside}
 use Rattle.fields.specs.Fields.{field-read, field-outside}
 use Rattle.layout.specs.CheckLaws.{unless-holds, unless-fails}
 use borrow.Author.Needs.{needs}
@@ -18,10 +19,10 @@ use Rattle.layout.proofs.checks.file.check_10.Tie as tie
 
 -- the last cell of year 0, in each block
 paid-inside : (s : Bytes) → Whole s → paidAt (lastYear s) 0 (lastYear s) + 8 ≤ length s
-paid-inside s w = amount-inside s w _ (omega (arith, row-inside (lastYear s) 0 (omega arith)))
+paid-inside s w = amount-inside s w _ (omega (arith, row-in-block (lastYear s) 0 (omega arith)))
 
 incurred-inside : (s : Bytes) → Whole s → incurredAt (lastYear s) 0 (lastYear s) + 8 ≤ length s
-incurred-inside s w = amount-inside s w _ (omega (arith, row-inside (lastYear s) 0 (omega arith)))
+incurred-inside s w = amount-inside s w _ (omega (arith, row-in-block (lastYear s) 0 (omega arith)))
 
 -- the places of both as the code finds them
 module _ (c : tie.After-cells-of) where
@@ -38,13 +39,13 @@ module _ (c : tie.After-cells-of) where
   is-whole = c .before .before .before .before .pre
 
 paid-place : (c : tie.After-cells-of) → let J = lastYear (file c) in paid-found c ≡ paidAt J 0 J
-paid-place c = omega (arith, row-start-zero (lastYear (file c)))
+paid-place c = omega (arith, rowStart-is (lastYear (file c)) 0 zero-le)
 
 incurred-place : (c : tie.After-cells-of) → let J = lastYear (file c) in incurred-found c ≡ incurredAt J 0 J
 incurred-place c =
     let J = lastYear (file c) in
     let all : c .cells-of .result ≡ cells J = c .cells-of .ensures ∙ ap cells (c .before .before .last-year .ensures) in
-    omega (arith, row-start-zero J)
+    omega (arith, rowStart-is J 0 zero-le)
 
 abbrev placed : tie.After-known-told2 → tie.After-cells-of
 placed c = c .before .before .before .before .before .before .before .before

@@ -6,7 +6,8 @@ use Prim.Native.Nat.{ℕ, _+_, _*_, _^_}
 use native.Mathlib.Omega.{arith}
 use Rattle.definitions.specs.Layout.{lastYear, cells, amountAt}
 use Rattle.definitions.specs.Refusals.{check9}
-use Rattle.layout.specs.Places.{amounts-end, amount-inside}
+use Rattle.laws.specs.Cells.{blocks-end}
+use Rattle.layout.specs.Places.{amount-inside}
 use Rattle.layout.specs.CheckLaws.{unsigned-run}
 use borrow.Author.Needs.{needs}
 use Rattle.layout.proofs.checks.file.check_9.Statement.{statement}
@@ -25,7 +26,7 @@ cells-of-requires : tie.Need-cells-of-requires
 cells-of-requires c κs = search needs
 
 mul-t6 : tie.Need-mul-t6
-mul-t6 c = omega (arith, all c, amounts-end (lastYear (now (c .before .before .before .before .args .s))), c .before .before .before .before .pre .whole)
+mul-t6 c = omega (arith, all c, blocks-end (lastYear (now (c .before .before .before .before .args .s))), c .before .before .before .before .pre .whole)
 
 check-unsigned-requires : tie.Need-check-unsigned-requires
 check-unsigned-requires c κs = λ k h.
