@@ -60,6 +60,7 @@ PINNED = {
         "logarithm-within-two-ticks Machine opens judges judges-alone sweeps reads reads-alone pages pages-alone shows "
         "tells closes machine same-outcomes row-empty larger-logarithm loss-around divided-fits paid-sum-fits incurred-sum-fits",
     "laws/PinnedPage": "page-bytes name-on-page index-on-page ticks-on-page weight-on-page spaces-on-page never-shared",
+    "row_starts/Pinned": "sixteen cells-counted none-counted",
     "holding/Pinned": "open-file reached-open",
     "opening/Pinned": "open-refused opened-holds",
     "judging/Pinned": "judge-worth judge-rounded",
