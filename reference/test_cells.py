@@ -12,10 +12,14 @@ PAGE = Path(__file__).resolve().parent.parent / "docs" / "CELLS.md"
 LAST_ROW_OF_THE_TABLE = (0, 16, 31, 45, 58, 70, 81, 91, 100, 108, 115, 121, 126, 130, 133, 135)  # added up by hand
 
 
+def rows_of(text: str) -> list[list[str]]:
+    lines = [line for line in text.splitlines() if line.startswith("| ")]
+    return [[cell.strip() for cell in line.strip("|").split("|")] for line in lines]
+
+
 def numbers(text: str) -> list[tuple[int, ...]]:
     """The rows of a table behind its head."""
-    lines = [line for line in text.splitlines() if line.startswith("| ")]
-    return [tuple(map(int, line.strip("| ").split("|"))) for line in lines[1:]]
+    return [tuple(map(int, row)) for row in rows_of(text)[1:]]
 
 
 def sections() -> dict[str, str]:
@@ -49,6 +53,18 @@ class Table(unittest.TestCase):
 class Page(unittest.TestCase):
     def test_is_the_printed_one(self) -> None:
         self.assertEqual(PAGE.read_text(), printed(), "python3 reference cells > docs/CELLS.md makes it anew")
+
+    def test_heads(self) -> None:
+        title, *others = sections()
+        self.assertEqual(rows_of(sections()[title])[0], ["J", *(str(year) for year in range(16))])
+        for other in others:
+            head = rows_of(sections()[other])[0]
+            self.assertEqual(head, ["accident year", "amounts", "cells before", "paid: from byte", "incurred: from byte"])
+
+    def test_says_how_to_read_it(self) -> None:
+        text = " ".join(PAGE.read_text().split())
+        for said in ("Entry 16·J + year, for J = 0..15 and year 0..15,", "starts 8·j bytes behind the start of its row"):
+            self.assertIn(said, text)
 
     def test_prints_the_table(self) -> None:
         rows = numbers(sections()["The table of row starts"])

@@ -6,6 +6,7 @@ from fractions import Fraction
 from math import log, sqrt
 from pathlib import Path
 
+import cells
 import chain
 import damage
 import exact
@@ -73,8 +74,15 @@ class File(unittest.TestCase):
     def test_number_of_a_cell(self) -> None:
         self.assertIn("amount number i(J+1) − i(i−1)/2 + j", section("The file"))
         for last in range(1, layout.LARGEST_YEAR + 1):
-            cells = [(i, j) for i in range(last + 1) for j in range(last - i + 1)]
-            self.assertEqual([i * (last + 1) - i * (i - 1) // 2 + j for i, j in cells], list(range(len(cells))))
+            places = [(i, j) for i in range(last + 1) for j in range(last - i + 1)]
+            self.assertEqual([i * (last + 1) - i * (i - 1) // 2 + j for i, j in places], list(range(len(places))))
+
+    def test_table_of_row_starts(self) -> None:
+        self.assertIn("Entry 16J + i is the number of the cell (i, 0)", " ".join(section("The table of row starts").split()))
+        entries = cells.table()
+        for last in range(1, layout.LARGEST_YEAR + 1):
+            for i in range(last + 1):
+                self.assertEqual(entries[16 * last + i], i * (last + 1) - i * (i - 1) // 2)
 
     def test_file_f_field_by_field(self) -> None:
         table = [row for row in rows(section("The file"), 4) if re.fullmatch(r"[0-9a-f]{2}( [0-9a-f]{2})*", row[1])]

@@ -48,5 +48,14 @@ class Sections(unittest.TestCase):
         self.assertIn("* What a caller owes.", text_of("include/desk.h"))
 
 
+class Landings(unittest.TestCase):
+    def test_each_ticket_has_its_rows(self) -> None:
+        tickets = sorted(int(name.split("/")[-1][:2]) for name in files() if name.startswith("docs/landings/"))
+        self.assertEqual(tickets, list(range(1, len(tickets) + 1)))
+        for ticket in tickets:
+            self.assertIn(f"\n| ticket {ticket}, ", text_of(SPECIFICATION))
+            self.assertIn(f"\n| {ticket}. ", text_of("docs/CLAIMS.md"))
+
+
 if __name__ == "__main__":
     unittest.main()

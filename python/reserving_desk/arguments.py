@@ -46,7 +46,7 @@ def not_negative(name: str, given: SupportsIndex) -> int:
     return number
 
 
-def within(name: str, given: SupportsIndex, high: int, low: int = 0, because: str = "") -> int:
+def within(name: str, given: SupportsIndex, low: int, high: int, because: str = "") -> int:
     """A whole number from low to high, limits that another argument may have set."""
     number = whole(name, given)
     if not low <= number <= high:

@@ -148,12 +148,12 @@ def placed(fields: Iterable[Field]) -> Iterator[tuple[int, Field]]:
 def cell_place(last: int, channel: int, year: int, column: int) -> int:
     """The first byte of an amount in a file whose J is `last`: `year` is the accident year, `column` the development year.
 
-    The paid block is channel 0, the incurred block 1. docs/CELLS.md prints the first byte of every row.
+    The channel is `PAID` or `INCURRED`. docs/CELLS.md prints the first byte of every row.
     """
-    last = within("last", last, LARGEST_YEAR, low=1)
-    channel = within("channel", channel, INCURRED)
-    year = within("year", year, last, because=f", as J is {last}")
-    column = within("column", column, last - year, because=f", as J is {last} and the year {year}")
+    last = within("last", last, 1, LARGEST_YEAR)
+    channel = within("channel", channel, PAID, INCURRED)
+    year = within("year", year, 0, last, f", as J is {last}")
+    column = within("column", column, 0, last - year, f", as J is {last} and the year {year}")
     name = amount_name(CHANNELS[channel], year, column)
     return next(place for place, field in placed(file_fields(last)) if field.name == name)
 

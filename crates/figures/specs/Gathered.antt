@@ -37,8 +37,8 @@ pub record Arrays : Type 0 where
   pub own : List ℕ
   pub logs : List ℤ
   pub means : List ℤ
+  pub shared : List ℤ
   pub sums : List ℤ
-  pub steps : List ℤ
   pub ratios : List ℤ
 
 pub record OfFile (f : Bytes) (last : ℕ) (a : Arrays) : Type 0 where
@@ -48,8 +48,8 @@ pub record OfFile (f : Bytes) (last : ℕ) (a : Arrays) : Type 0 where
   pub own-are : OwnWeights (a .columns) (a .priors) last (a .own)
   pub logs-are : Logarithms f (a .logs)
   pub means-are : PriorMeans f (a .means)
-  pub sums-are : SharesOf (a .weights) last (a .sums)
-  pub steps-are : ColumnSums (a .logs) last (a .steps)
+  pub shared-are : SharesOf (a .weights) last (a .shared)
+  pub sums-are : ColumnSums (a .logs) last (a .sums)
   pub ratios-are : RatioSums (a .weights) (a .logs) last (a .ratios)
 
 module _ (f : Bytes) (h : AcceptedFile f) where
@@ -111,40 +111,40 @@ module _ (f : Bytes) (h : AcceptedFile f) where
     ratios-are : (m : ℕ) → m ≤ J → part (a .ratios) m ≡ ratiosOfLast c m
     ratios-are = ratios-agree f (r .logs-are) (r .weights-are) (r .ratios-are)
 
-    pub file-targets : OfTargets (a .priors) (a .means) (a .columns) (a .steps) (a .ratios) J
+    pub file-targets : OfTargets (a .priors) (a .means) (a .columns) (a .sums) (a .ratios) J
     file-targets = record {
       few = h .years .to;
       priors-small = priors-to (r .priors-are);
       means-small = λ k below. rw (r .means-are .filled .front k below) (h .prior-means k below);
       columns-small = columns-to (r .columns-are);
-      sums-small = λ k below. rw (r .steps-are .filled .front k below) (columnSum-small (a .logs) J k (file-logs (r .logs-are)));
+      sums-small = λ k below. rw (r .sums-are .filled .front k below) (columnSum-small (a .logs) J k (file-logs (r .logs-are)));
       ratios-small = λ m few. rw (ratios-are m few) (ratio-sum-to m few);
     }
 
     own-is : (k : ℕ) → k < n → at (a .own) k ≡ own c k
     own-is = own-agrees f (r .columns-are) (r .priors-are) (r .own-are)
 
-    pub file-matrix : OfMatrix (a .own) (a .sums) J
+    pub file-matrix : OfMatrix (a .own) (a .shared) J
     file-matrix = record {
       few = h .years .to;
       own-small = λ k below. rw (own-is k below) (omega (arith, file-limits f h .own-to k below));
       shares-small = λ m few.
           let term : ℕ → ℤ = λ i. pos (at (a .weights) i) in
           let bounded = total-bound m (2 ^ 27) {f = λ i. natAbs (term i)} (λ i below. weights-to (r .weights-are) i (omega arith)) in
-          rw (r .sums-are .is m few) (omega (arith, h .years .to, sum-size m term, bounded));
+          rw (r .shared-are .is m few) (omega (arith, h .years .to, sum-size m term, bounded));
     }
 
     -- ---- the figures
 
     module _ {targets A : List ℤ}
-        (t : Targets (a .priors) (a .means) (a .columns) (a .steps) (a .ratios) J targets)
-        (filled : MatrixOf (a .own) (a .sums) J A) where
+        (t : Targets (a .priors) (a .means) (a .columns) (a .sums) (a .ratios) J targets)
+        (filled : MatrixOf (a .own) (a .shared) J A) where
       -- an entry on or below the diagonal is the one that is filled, and one above it is that of its mirror
       on-or-below : (k j : ℕ) → k < n → j < n → j ≤ k → cell A k j ≡ matrix c k j
       on-or-below k j k-below j-below before =
           cell-at A k j before
           ∙ filled .whole .there k k-below j j-below
-          ∙ entry-agrees f (a .own) (a .sums) own-is (shares-agree f (r .weights-are) (r .sums-are)) k j k-below j-below
+          ∙ entry-agrees f (a .own) (a .shared) own-is (shares-agree f (r .weights-are) (r .shared-are)) k j k-below j-below
 
       cell-is : (k j : ℕ) → k < n → j < n → cell A k j ≡ matrix c k j
       cell-is k j k-below j-below = by-side (decLe j k)
@@ -159,7 +159,7 @@ module _ (f : Bytes) (h : AcceptedFile f) where
       target-is : (k : ℕ) → k < n → part targets k ≡ rightHand c k
       target-is k below =
           t .filled .front k below
-          ∙ target-agrees f (r .logs-are) (r .columns-are) (r .priors-are) (r .means-are) (r .steps-are) (a .ratios) ratios-are k below
+          ∙ target-agrees f (r .logs-are) (r .columns-are) (r .priors-are) (r .means-are) (r .sums-are) (a .ratios) ratios-are k below
 
       pub gathered : figuresOf (figuresAt J (closeness f) (a .own) A targets) ≡ D.figuresOf f
       unfolding figuresOf D.figuresOf

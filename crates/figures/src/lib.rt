@@ -45,14 +45,14 @@ pub fn figures_in<'a>(
     let priors = prior_weights(file);
     let weighed = own_weights(&columns, &priors, last);
     let weights = ratio_weights(file);
-    let sums = shares(&weights, last);
+    let shared = shares(&weights, last);
     let logs = logarithms(file);
     let means = prior_means(file);
     let starts = starts_of(last);
-    let steps = column_sums(&logs, &starts, last);
+    let sums = column_sums(&logs, &starts, last);
     let ratios = ratio_sums(&weights, &logs, &starts, last);
-    let targets = right_hand_of(&priors, &means, &columns, &steps, &ratios, last);
-    fill_matrix(matrix, &weighed, &sums, last);
+    let targets = right_hand_of(&priors, &means, &columns, &sums, &ratios, last);
+    fill_matrix(matrix, &weighed, &shared, last);
     *own = weighed;
     *right_hand = targets;
     *mean = means;

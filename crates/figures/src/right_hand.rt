@@ -18,7 +18,7 @@ ghost use Rattle.figures.specs.Sums.{
 use crate::matrix::rank_of;
 use layout::places::cells_of;
 
-// Σ over the accident years of the step from a column of a block to the next: log(cell + 1) − log(cell).
+// Σ over the accident years of the step from a column of a block to the next: the next cell's logarithm less the cell's.
 fn step_sum<'a>(
     logs: &'a [i64; 272],
     starts: &'a [usize; 16],
@@ -70,7 +70,7 @@ fn column_sum<'a>(logs: &'a [i64; 272], starts: &'a [usize; 16], last: u8, k: us
     step_sum(logs, starts, last, cells_of(last), k - years - 1)
 }
 
-// The same of every part.
+// Those of every part.
 pub fn column_sums<'a>(logs: &'a [i64; 272], starts: &'a [usize; 16], last: u8) -> [i64; 31]
     requires { ⌜ OfRows (now logs) (now starts) last ⌝ }
     ensures { λ r. ⌜ ColumnSums (now (logs .entry)) last r ⌝ }

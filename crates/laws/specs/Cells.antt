@@ -1,6 +1,6 @@
 -- The cells of a block: document 02's formula and table give the start of each row, and every row is inside its block.
 use Prim.Native.Nat.{ℕ, zero, suc, _+_, _*_, _-_, _/_, _%_, _≤_, _<_}
-use mathlib.Core.Path.{_≡_, refl, sym, subst, ap₂, _∙_}
+use mathlib.Core.Path.{_≡_, refl, sym, subst, ap, ap₂, _∙_}
 use mathlib.Core.Bool.{Bool, true, false}
 use native.Mathlib.Nat.{mul-le-mul}
 use native.Mathlib.Omega.{arith}
@@ -45,9 +45,8 @@ blocks-end J = omega (arith, rowStart-is J (J + 1) (omega arith))
 pub cells-before : (J year : ℕ) → year ≤ J + 1 → cellsBefore J year ≡ rowStart J year
 cells-before J zero h = omega (arith, rowStart-is J 0 h)
 cells-before J (suc i) h =
-    let before : suc i - 1 ≡ i = omega arith in
-    let start = rowStart-is J (suc i) h in
-    rw before (omega arith)
+    let before : suc i * (suc i - 1) ≡ suc i * i = ap (λ n. suc i * n) (omega arith) in
+    omega (arith, before, rowStart-is J (suc i) h)
 
 -- entry 16·J + year is that of J and the year
 pub entry-at : (J year : ℕ) → year ≤ 15 → tableEntry (16 * J + year) ≡ startEntry J year

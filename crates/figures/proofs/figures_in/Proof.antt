@@ -92,8 +92,8 @@ module _ (Q : tie.After-ratio-sums) where
     own = O .own-weights .result;
     logs = G .logarithms .result;
     means = M .prior-means .result;
-    sums = S .shares .result;
-    steps = C .column-sums .result;
+    shared = S .shares .result;
+    sums = C .column-sums .result;
     ratios = Q .ratio-sums .result;
   }
 
@@ -105,8 +105,8 @@ module _ (Q : tie.After-ratio-sums) where
     own-are = O .own-weights .ensures;
     logs-are = G .logarithms .ensures;
     means-are = M .prior-means .ensures;
-    sums-are = S .shares .ensures;
-    steps-are = C .column-sums .ensures;
+    shared-are = S .shares .ensures;
+    sums-are = C .column-sums .ensures;
     ratios-are = Q .ratio-sums .ensures;
   })
 
@@ -177,14 +177,14 @@ right-hand-of-requires : tie.Need-right-hand-of-requires
 right-hand-of-requires c κs =
     let Q = c .before .before .before .before .before in
     let a = arrays Q in
-    subst (OfTargets (a .priors) (a .means) (a .columns) (a .steps) (a .ratios)) (sym (year (Y Q)))
+    subst (OfTargets (a .priors) (a .means) (a .columns) (a .sums) (a .ratios)) (sym (year (Y Q)))
     (file-targets (file (Y Q)) (s (Y Q) .pre) (of-file Q))
 
 fill-matrix-requires : tie.Need-fill-matrix-requires
 fill-matrix-requires c κs =
     let Q = sums-of (c .before .before .before) in
     let a = arrays Q in
-    subst (OfMatrix (a .own) (a .sums)) (sym (year (Y Q))) (file-matrix (file (Y Q)) (s (Y Q) .pre) (of-file Q))
+    subst (OfMatrix (a .own) (a .shared)) (sym (year (Y Q))) (file-matrix (file (Y Q)) (s (Y Q) .pre) (of-file Q))
 
 -- what was gathered by the end
 module _ (A : tie.After-fill-matrix) where
@@ -205,8 +205,8 @@ module _ (A : tie.After-fill-matrix) where
       let a = arrays Q in
       let e = year (Y Q) in
       gathered bytes (s (Y Q) .pre) (of-file Q)
-      (subst (λ n. Targets (a .priors) (a .means) (a .columns) (a .steps) (a .ratios) n (T .right-hand-of .result)) e (T .right-hand-of .ensures))
-      (subst (λ n. MatrixOf (a .own) (a .sums) n filled) e (A .fill-matrix .ensures))
+      (subst (λ n. Targets (a .priors) (a .means) (a .columns) (a .sums) (a .ratios) n (T .right-hand-of .result)) e (T .right-hand-of .ensures))
+      (subst (λ n. MatrixOf (a .own) (a .shared) n filled) e (A .fill-matrix .ensures))
 
 returns : tie.Need-returns
 returns c = (figures-are c, of-file (Q c) .means-are)
