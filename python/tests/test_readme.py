@@ -29,7 +29,7 @@ class Readme(unittest.TestCase):
             self.assertRegex(comment, rf"{re.escape(line)}(?!\w)", f"{line!r} is printed, and {comment!r} is said")
 
     def test_examples(self) -> None:
-        for document, count in (("README.md", 2), ("python/README.md", 1)):
+        for document, count in (("README.md", 1), ("python/README.md", 1)):
             self.assertEqual(len(examples(document)), count, document)
             for code in examples(document):
                 self.assert_prints_what_it_says(code)
