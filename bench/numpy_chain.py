@@ -35,7 +35,7 @@ def arrays_of(file: File) -> dict[str, np.ndarray]:
         "sigma2": np.array(file.sigma2, dtype=float),
         "tau2": np.array(file.tau2, dtype=float),
         "prior_means": np.array(file.prior_means, dtype=float),
-        "prior_variances": np.array(file.prior_variances, dtype=float),
+        "prior_variances": np.array([variance or np.inf for variance in file.prior_variances]),  # which of no prior is 0
     }
 
 

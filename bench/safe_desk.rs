@@ -69,8 +69,9 @@ pub fn logarithm(amount: u64) -> i64 {
     i64::from(h) * TICKS + bits
 }
 
+/// A variance of 0 stands for no prior.
 fn weight(variance: u64) -> u64 {
-    ((1 << 47) + variance) / (2 * variance)
+    ((1 << 47) + variance).checked_div(2 * variance).unwrap_or(0)
 }
 
 /// Where the fields of a file of J stand.
@@ -125,7 +126,8 @@ fn check(file: &[u8]) -> Result<Layout, Refusal> {
         }
     }
     for k in 0..at.parts {
-        if !(1 << 18..=1 << 46).contains(&unsigned::<8>(file, at.prior_variance(k))) {
+        let variance = unsigned::<8>(file, at.prior_variance(k));
+        if variance != 0 && !(1 << 18..=1 << 46).contains(&variance) {
             return refuse(7, at.prior_variance(k));
         }
     }

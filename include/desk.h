@@ -28,9 +28,9 @@
 extern "C" {
 #endif
 
-#define DESK_VERSION "1.3.0"
+#define DESK_VERSION "1.4.0"
 #define DESK_VERSION_MAJOR 1
-#define DESK_VERSION_MINOR 3
+#define DESK_VERSION_MINOR 4
 #define DESK_VERSION_PATCH 0
 
 #define DESK_PAID UINT64_C(0) /* the channels of a row */
@@ -180,7 +180,7 @@ static inline const char *desk_refusal_text(uint64_t number) {
     case 4: return "the length does not suit the number of development years";
     case 5: return "the closeness must be from 1 to 65,536 ticks";
     case 6: return "a variance of sigma or tau must be from 2^18 to 2^40 squared ticks";
-    case 7: return "the variance of a prior must be from 2^18 to 2^46 squared ticks";
+    case 7: return "the variance of a prior must be 0 (no prior) or from 2^18 to 2^46 squared ticks";
     case 8: return "the mean of a prior must be from -2^26 to 2^26 ticks";
     case 9: return "an amount must be from 1 to 2^40";
     case 10: return "the oldest accident year must end with the same amount paid as incurred";

@@ -16,7 +16,7 @@ from cells import printed
 from layout import Refusal
 from listing import listing, refused_line
 
-RESERVES_CLOSENESS = 2  # at closeness 1 the mean of Tables 10 and 11 comes to rest without passing
+SAMPLE_CLOSENESS = 256
 
 
 def read_input(name: str) -> bytes:
@@ -87,7 +87,7 @@ def run_cells(_arguments: argparse.Namespace) -> int:
 
 
 def run_reserves(_arguments: argparse.Namespace) -> int:
-    file = paper.tables_file(RESERVES_CLOSENESS)
+    file = paper.tables_file(SAMPLE_CLOSENESS)
     ours = paper.reserves(file, paper.settled_mean(file))
     print(f"{'year':>5} {'reserve':>12} {'Table 3':>12} {'apart':>9}")
     rows = [(str(year), *pair) for year, pair in enumerate(zip(ours, paper.RESERVES), start=1)]
@@ -138,7 +138,7 @@ def parser() -> argparse.ArgumentParser:
     drawn.add_argument("--out", type=Path, required=True, metavar="DIR")
     sample = command("sample", run_sample, "write the file of the paper's Tables 10 and 11")
     sample.add_argument("out", type=Path, metavar="OUT", help="the file to write")
-    sample.add_argument("--closeness", type=closeness, default=256, metavar="E", help="default %(default)s")
+    sample.add_argument("--closeness", type=closeness, default=SAMPLE_CLOSENESS, metavar="E", help="default %(default)s")
     command("cells", run_cells, "print where each row starts, by cells and by bytes: docs/CELLS.md")
     command("reserves", run_reserves, "print the reserves of Tables 10 and 11 beside the paper's")
     return top

@@ -15,6 +15,7 @@ RECORD_HEAD_LENGTH = 5
 CLOSENESS_LIMITS = (1, 65_536)
 VARIANCE_LIMITS = (1 << 18, 1 << 40)
 PRIOR_VARIANCE_LIMITS = (1 << 18, 1 << 46)
+FLAT = 0  # a prior variance besides: of a prior that weighs nothing
 MEAN_LIMITS = (-(1 << 26), 1 << 26)
 AMOUNT_LIMITS = (1, 1 << 40)
 
@@ -175,7 +176,9 @@ def _fields_refusal(file: File) -> Refusal | None:
     last = file.last
     parts = range(parts_count(last))
     variances = zip(map(variance_place, parts), file.sigma2 + file.tau2)
-    prior_variances = zip((prior_variance_place(last, part) for part in parts), file.prior_variances)
+    prior_variances = (
+        (prior_variance_place(last, part), file.prior_variances[part]) for part in parts if file.prior_variances[part] != FLAT
+    )
     prior_means = zip((prior_mean_place(last, part) for part in parts), file.prior_means)
     refusal = (
         _first_outside(6, variances, VARIANCE_LIMITS)

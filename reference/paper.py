@@ -61,8 +61,8 @@ def squared_ticks(deviation: Fraction) -> int:
     return round(ticks * ticks)
 
 
-def tables_file(closeness: int) -> File:
-    """Tables 10 and 11 with the deviations of Table 2 and priors of weight 1, the least a file can give."""
+def tables_file(closeness: int, prior_variance: int = layout.FLAT) -> File:
+    """Tables 10 and 11 with the deviations of Table 2: the paper's own example, whose priors weigh nothing."""
     last = len(PAID) - 1
     parts = layout.parts_count(last)
     return File(
@@ -71,7 +71,7 @@ def tables_file(closeness: int) -> File:
         sigma2=tuple(squared_ticks(Fraction(deviation, 10_000)) for deviation in SIGMA),
         tau2=tuple(squared_ticks(Fraction(deviation, 10_000)) for deviation in TAU),
         prior_means=(0,) * parts,
-        prior_variances=(layout.PRIOR_VARIANCE_LIMITS[1],) * parts,
+        prior_variances=(prior_variance,) * parts,
         paid=PAID,
         incurred=INCURRED,
     )

@@ -1,12 +1,12 @@
 """Files to try the desk on: File F of the specification, files at the limits, files hard to settle, drawn files."""
 
-from collections.abc import Callable
+from collections.abc import Callable, Container
 from dataclasses import replace
 from random import Random
 
 import layout
 from layout import (
-    AMOUNT_LIMITS, CLOSENESS_LIMITS, MEAN_LIMITS, PRIOR_VARIANCE_LIMITS, VARIANCE_LIMITS, File, Triangle,
+    AMOUNT_LIMITS, CLOSENESS_LIMITS, FLAT, MEAN_LIMITS, PRIOR_VARIANCE_LIMITS, VARIANCE_LIMITS, File, Triangle,
 )
 from scales import TICKS_PER_DOUBLING as T
 
@@ -35,6 +35,14 @@ def with_same_end(file: File) -> File:
     """The file with year 0's last incurred amount made equal to its last paid one, as check 10 asks."""
     first = file.incurred[0][:-1] + file.paid[0][-1:]
     return replace(file, incurred=(first,) + file.incurred[1:])
+
+
+def without_priors(file: File, parts: Container[int] | None = None) -> File:
+    """The file with priors of no weight at these parts, or at all. Their means stay: the sweep starts there."""
+    def kept(part: int, variance: int) -> int:
+        return FLAT if parts is None or part in parts else variance
+
+    return replace(file, prior_variances=tuple(kept(part, variance) for part, variance in enumerate(file.prior_variances)))
 
 
 def file_at_limits(last: int, end: int) -> File:
@@ -69,6 +77,25 @@ def spent_at_a_limit(closeness: int = 1, sign: int = 1) -> File:
         prior_variances=(1 << 46, 1 << 46, 1 << 18),
         paid=((low, high), (low,)),
         incurred=((low, high), (high,)),
+    )
+
+
+def spent_without_priors(closeness: int = 1) -> File:
+    """J = 2, no priors: phi 2 belongs at 80 doublings but is kept at 64, so its residue never comes near enough.
+
+    phi 1 and psi 0 are held at -20 and 20, psi 1 at 40, by columns of far more weight. Phi 2's own observation is at 40, year 1 asks
+    it for 40 more than psi 1, and year 2 for 40 more than psi 0 and psi 1 less phi 1: a third of 40, 80 and 120 is 80.
+    """
+    low, high = AMOUNT_LIMITS
+    return File(
+        last=2,
+        closeness=closeness,
+        sigma2=(1 << 40, 1 << 18, 1 << 40),
+        tau2=(1 << 18, 1 << 18),
+        prior_means=(0,) * 5,
+        prior_variances=(FLAT,) * 5,
+        paid=((high, low, high), (low, low), (low,)),
+        incurred=((low, low, high), (low, high), (high,)),
     )
 
 
@@ -117,6 +144,18 @@ def drawn_file(rng: Random, last: int | None = None) -> File:
     """An accepted file: mild, spread over all magnitudes, or made of the limits only."""
     last = rng.randint(1, 15) if last is None else last
     return with_same_end(rng.choice((mild_file, _spread_file, _extreme_file))(rng, last))
+
+
+def drawn_flat_file(rng: Random, last: int | None = None) -> File:
+    """A drawn file whose parts lack a prior: all of them, about half, or the first or the last alone."""
+    file = drawn_file(rng, last)
+    parts = range(layout.parts_count(file.last))
+    half = [part for part in parts if rng.randrange(2)]
+    return without_priors(file, rng.choice((parts, half, parts[:1], parts[-1:])))
+
+
+def drawn_any_file(rng: Random, last: int | None = None) -> File:
+    return rng.choice((drawn_file, drawn_flat_file))(rng, last)
 
 
 def mild_file(rng: Random, last: int) -> File:

@@ -25,7 +25,7 @@ def logarithm(amount: int) -> int:
 
 
 def weight(variance: int) -> int:
-    """2^46 over the variance, to the nearest whole number, halves up."""
-    if variance < 1:
-        raise ValueError(f"a variance is at least 1, not {variance}")
-    return ((1 << 47) + variance) // (2 * variance)
+    """2^46 over the variance, to the nearest whole number, halves up. A variance of 0 stands for no prior, and has no weight."""
+    if variance < 0:
+        raise ValueError(f"a variance is at least 0, not {variance}")
+    return ((1 << 47) + variance) // (2 * variance) if variance else 0

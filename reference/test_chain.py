@@ -104,7 +104,7 @@ class Sweeping(unittest.TestCase):
     def test_residues_held_are_residues_worked_out(self) -> None:
         rng = Random(7)
         for last in range(1, 16):
-            figures = chain.figures_of(samples.drawn_file(rng, last))
+            figures = chain.figures_of(samples.drawn_any_file(rng, last))
             mean = [rng.randint(-(1 << 26), 1 << 26) for _ in figures.own]
             residues = chain.residues_of(figures, mean)
             for part in [*range(len(mean)), *range(len(mean))]:
@@ -115,7 +115,7 @@ class Sweeping(unittest.TestCase):
         rng = Random(8)
         brought_back = 0
         for _ in range(400):
-            figures = chain.figures_of(samples.drawn_file(rng, rng.randint(1, 15)))
+            figures = chain.figures_of(samples.drawn_any_file(rng, rng.randint(1, 15)))
             mean = [rng.choice((-(1 << 26), rng.randint(-99, 99), 1 << 26)) for _ in figures.own]
             part = rng.randrange(len(mean))
             residue = sum(a * m for a, m in zip(figures.matrix[part], mean)) - figures.right_hand_side[part]

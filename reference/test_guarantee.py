@@ -14,14 +14,15 @@ from layout import File
 from scales import TICKS_PER_DOUBLING as T
 
 
-def without_noise(rng: Random, last: int) -> tuple[File, list[int]]:
-    """A file whose observations all agree with one whole mean, and that mean: it has zero residue."""
+def without_noise(rng: Random, drawn: File) -> tuple[File, list[int]]:
+    """The file with observations that all agree with one whole mean, and that mean: it has zero residue."""
+    last = drawn.last
     phi = [20] + [rng.randint(-1, 1) for _ in range(last)]
     psi = [rng.randint(-1, 1) for _ in range(last)]
     ultimate = sum(phi)
     columns = [range(last - i + 1) for i in range(last + 1)]
     file = replace(
-        samples.drawn_file(rng, last),
+        drawn,
         prior_means=tuple(T * part for part in phi + psi),
         paid=tuple(tuple(1 << sum(phi[:j + 1]) for j in row) for row in columns),
         incurred=tuple(tuple(1 << ultimate - sum(psi[j:]) for j in row) for row in columns),
@@ -45,10 +46,12 @@ def passing_means(rng: Random, file: File, figures: chain.Figures) -> list[tuple
 
 
 class Guarantee(unittest.TestCase):
+    draw = staticmethod(samples.drawn_file)
+
     def test_exact_solution_has_zero_residue(self) -> None:
         rng = Random(21)
         for last in range(1, 16):
-            figures = chain.figures_of(samples.drawn_file(rng, last))
+            figures = chain.figures_of(self.draw(rng, last))
             u, m = exact.solve(figures.matrix, figures.right_hand_side)
             self.assertGreaterEqual(m, 1)
             self.assertEqual(chain.residues_of(figures, u, m), [0] * len(u))
@@ -57,7 +60,7 @@ class Guarantee(unittest.TestCase):
         rng = Random(22)
         tried = 0
         for last in [1, 2, 3, 4] * 12 + [8, 15]:
-            file = samples.drawn_file(rng, last)
+            file = self.draw(rng, last)
             figures, squares = chain.figures_of(file), loss.squares_of(file)
             u, m = exact.solve(figures.matrix, figures.right_hand_side)
             allowed = figures.closeness**2 * sum(figures.own)
@@ -76,7 +79,7 @@ class Guarantee(unittest.TestCase):
         """The other way round: beyond the bound of nearness nothing passes."""
         rng = Random(23)
         for last in (1, 2, 3, 6):
-            figures = chain.figures_of(samples.drawn_file(rng, last))
+            figures = chain.figures_of(self.draw(rng, last))
             u, m = exact.solve(figures.matrix, figures.right_hand_side)
             far = [part + 2 * figures.closeness for part in exact.rounded(u, m)]
             beyond = m * m * figures.closeness**2 * sum(figures.own)
@@ -87,7 +90,7 @@ class Guarantee(unittest.TestCase):
         rng = Random(24)
         failing_at_one = 0
         for last in [*range(1, 16)] * 2:
-            figures = chain.figures_of(replace(samples.drawn_file(rng, last), closeness=256))
+            figures = chain.figures_of(replace(self.draw(rng, last), closeness=256))
             u, m = exact.solve(figures.matrix, figures.right_hand_side)
             near = exact.rounded(u, m)
             for part, whole in zip(u, near):
@@ -101,7 +104,7 @@ class Guarantee(unittest.TestCase):
     def test_a_mean_with_zero_residue_is_strictly_least(self) -> None:
         rng = Random(25)
         for last in range(1, 16):
-            file, mean = without_noise(rng, last)
+            file, mean = without_noise(rng, self.draw(rng, last))
             figures, squares = chain.figures_of(file), loss.squares_of(file)
             self.assertEqual(chain.residues_of(figures, mean), [0] * len(mean))
             least = loss.loss_of(squares, mean)
@@ -132,6 +135,31 @@ class Guarantee(unittest.TestCase):
                 u = [m * whole for whole in mean]
                 u[part] += 1
                 self.assertLess(m * m * least, loss.loss_of(squares, u, m))
+
+
+class GuaranteeWithoutPriors(Guarantee):
+    """All of it for files whose parts lack a prior, some or all: an own weight is never less than an observation's."""
+
+    draw = staticmethod(samples.drawn_flat_file)
+
+    def test_own_weights(self) -> None:
+        rng = Random(26)
+        for last in [*range(1, 16)] * 4:
+            file = self.draw(rng, last)
+            weights, own = chain.weights_of(file), chain.figures_of(file).own
+            counts = [*range(last + 1, 0, -1), *range(last, 0, -1)]
+            for part, (observed, count) in enumerate(zip(weights.p + weights.q, counts)):
+                self.assertGreaterEqual(observed, 1)
+                self.assertGreaterEqual(own[part], observed)
+                if file.prior_variances[part] == layout.FLAT:
+                    self.assertEqual(own[part], count * observed)
+
+    def test_no_prior_mean_counts_where_none_weighs(self) -> None:
+        rng = Random(27)
+        for last in range(1, 16):
+            file = samples.without_priors(self.draw(rng, last))
+            moved = replace(file, prior_means=tuple(rng.randint(*layout.MEAN_LIMITS) for _ in file.prior_means))
+            self.assertEqual(chain.figures_of(moved), chain.figures_of(file))
 
 
 if __name__ == "__main__":

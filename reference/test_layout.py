@@ -117,6 +117,30 @@ class FileChecks(unittest.TestCase):
                 both = damage.put(damage.put(lent, behind, high + 1, width), place, low - 1, width)
                 self.assertEqual(read_file(both), Refusal(number, place))
 
+    def test_a_prior_variance_of_0_is_taken(self) -> None:
+        """At every part, and at all at once; 1 and 2^18 - 1 are refused there as anywhere."""
+        for last in (1, 2, 15):
+            lent = build_file(samples.many_sweeps(last))
+            all_flat = lent
+            for part in range(2 * last + 1):
+                place = layout.prior_variance_place(last, part)
+                self.assertEqual(read_file(damage.put(lent, place, 0, 8)).prior_variances[part], 0)
+                for variance in (1, 2**18 - 1):
+                    self.assertEqual(read_file(damage.put(lent, place, variance, 8)), Refusal(7, place))
+                all_flat = damage.put(all_flat, place, 0, 8)
+            self.assertEqual(read_file(all_flat), samples.without_priors(samples.many_sweeps(last)))
+
+    def test_the_mean_of_a_flat_prior_has_its_limits(self) -> None:
+        flat = damage.put(F_BY_HAND, 38, 0, 8)
+        for mean in (-(2**26), 2**26):
+            self.assertEqual(read_file(damage.put(flat, 34, mean, 4)).prior_means[0], mean)
+        for mean in (-(2**26) - 1, 2**26 + 1):
+            self.assertEqual(read_file(damage.put(flat, 34, mean, 4)), Refusal(8, 34))
+
+    def test_no_other_variance_may_be_0(self) -> None:
+        for place in (10, 18, 26):
+            self.assertEqual(read_file(damage.put(F_BY_HAND, place, 0, 8)), Refusal(6, place))
+
     def test_prior_variances_before_prior_means(self) -> None:
         # The mean's field comes first in the file, its check second.
         lent = damage.put(F_BY_HAND, 34, 2**26 + 1, 4)

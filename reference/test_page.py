@@ -17,7 +17,7 @@ BLANKS = (4, 7, 17)
 
 PAGE_OF_F = b"phi  0  10485760     131073\nphi  1   1048576      65537\npsi  0  -1048576      65537\n"
 
-LEAST_OWN = weight(PRIOR_VARIANCE_LIMITS[1]) + weight(VARIANCE_LIMITS[1])  # one observation, which every part has
+LEAST_OWN = weight(VARIANCE_LIMITS[1])  # no prior and one observation, which every part has
 MOST_OWN = weight(PRIOR_VARIANCE_LIMITS[0]) + (LARGEST_YEAR + 1) * weight(VARIANCE_LIMITS[0])  # sixteen, as phi 0 can have
 
 
@@ -49,7 +49,7 @@ class Lines(unittest.TestCase):
     def test_columns_of_drawn_files(self) -> None:
         rng = Random(71)
         for last in [*range(1, LARGEST_YEAR + 1)] * 4:
-            page = build_page(drawn_mean(rng, last), own_weights_of(samples.drawn_file(rng, last)))
+            page = build_page(drawn_mean(rng, last), own_weights_of(samples.drawn_any_file(rng, last)))
             lines = page.split(b"\n")
             self.assertEqual((lines.pop(), len(lines)), (b"", 2 * last + 1))
             for line in lines:
@@ -61,7 +61,7 @@ class Lines(unittest.TestCase):
     def test_what_is_read_back(self) -> None:
         rng = Random(72)
         for last in [*range(1, LARGEST_YEAR + 1)] * 4:
-            mean, own = drawn_mean(rng, last), own_weights_of(samples.drawn_file(rng, last))
+            mean, own = drawn_mean(rng, last), own_weights_of(samples.drawn_any_file(rng, last))
             names = [*(("phi", j) for j in range(last + 1)), *(("psi", j) for j in range(last))]
             wanted = [(name, index, part, weight) for (name, index), part, weight in zip(names, mean, own, strict=True)]
             self.assertEqual(read_back(build_page(mean, own)), wanted)
@@ -82,11 +82,12 @@ class Fit(unittest.TestCase):
             self.assertEqual(max(len(str(value)) for value in values), last - first + 1)
 
     def test_own_weights_are_inside(self) -> None:
-        self.assertEqual((LEAST_OWN, MOST_OWN), (65, 17 << 28))
+        self.assertEqual((LEAST_OWN, MOST_OWN), (64, 17 << 28))
         rng, lowest, highest = Random(73), *(samples.file_at_limits(LARGEST_YEAR, end) for end in (0, 1))
-        self.assertEqual((min(own_weights_of(highest)), max(own_weights_of(lowest))), (LEAST_OWN, MOST_OWN))
+        least = min(own_weights_of(samples.without_priors(highest)))
+        self.assertEqual((least, max(own_weights_of(lowest))), (LEAST_OWN, MOST_OWN))
         for _ in range(200):
-            own = own_weights_of(samples.drawn_file(rng))
+            own = own_weights_of(samples.drawn_any_file(rng))
             self.assertLessEqual(LEAST_OWN, min(own))
             self.assertLessEqual(max(own), MOST_OWN)
 
@@ -119,7 +120,7 @@ class OfASession(unittest.TestCase):
     def test_is_the_settled_mean_s_with_the_figures_own_weights(self) -> None:
         rng, written = Random(75), 0
         for last in range(1, LARGEST_YEAR + 1):
-            _, state = session.open_file(session.EMPTY, build_file(samples.drawn_file(rng, last)))
+            _, state = session.open_file(session.EMPTY, build_file(samples.drawn_any_file(rng, last)))
             _, state = session.sweep(state, 100)
             answer, buffer = session.page(state, bytes(page_length(last)))
             if answer == session.Paged():

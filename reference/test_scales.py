@@ -89,9 +89,12 @@ class Weight(unittest.TestCase):
         weights = [weight(variance) for variance in variances]
         self.assertEqual(weights, sorted(weights, reverse=True))
 
-    def test_no_variance_is_below_one(self) -> None:
+    def test_a_variance_of_0_has_no_weight(self) -> None:
+        self.assertEqual((weight(0), weight(1)), (0, 1 << 46))
+
+    def test_no_variance_is_below_zero(self) -> None:
         with self.assertRaises(ValueError):
-            weight(0)
+            weight(-1)
 
 
 if __name__ == "__main__":

@@ -176,8 +176,8 @@ class Sweep(unittest.TestCase):
         self.assertEqual(session.sweep(spent, 0), (Refusal(12, 0), spent))
 
     def test_at_rest_without_passing(self) -> None:
-        """Tables 10 and 11 at closeness 1: a sweep changes nothing any more, and phi 9 still fails."""
-        answer, state = session.sweep(opened(paper.tables_file(1)), 100)
+        """Tables 10 and 11 at closeness 1 with priors of weight 1: a sweep changes nothing any more, and phi 9 still fails."""
+        answer, state = session.sweep(opened(paper.tables_file(1, prior_variance=1 << 46)), 100)
         self.assertEqual(answer, Going(100))
         _, after = session.sweep(state, 1)
         self.assertEqual(after.mean, state.mean)
@@ -217,7 +217,7 @@ class ReadAndPage(unittest.TestCase):
         rng = Random(31)
         written = 0
         for last in range(1, 16):
-            _, state = session.sweep(opened(samples.drawn_file(rng, last)), 100)
+            _, state = session.sweep(opened(samples.drawn_any_file(rng, last)), 100)
             answer, buffer = session.read(state, bytes(layout.record_length(last)))
             if answer == Written():
                 written += 1
@@ -251,7 +251,7 @@ class Figures(unittest.TestCase):
         low, high = layout.MEAN_LIMITS
         failing = set()
         for last in range(1, 16):
-            state = opened(samples.drawn_file(rng, last))
+            state = opened(samples.drawn_any_file(rng, last))
             shown, parts = session.figures(state), layout.parts_count(last)
             self.assertEqual([len(row) for row in shown.matrix], [parts] * parts)
             _, settled = session.sweep(state, 4_096)
@@ -271,7 +271,7 @@ class Row(unittest.TestCase):
     def test_every_channel_and_year(self) -> None:
         rng = Random(32)
         for last in range(1, 16):
-            file = samples.drawn_file(rng, last)
+            file = samples.drawn_any_file(rng, last)
             lent = build_file(file)
             for channel, triangle in enumerate((file.paid, file.incurred)):
                 for year, amounts in enumerate(triangle):

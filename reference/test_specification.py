@@ -103,12 +103,15 @@ class File(unittest.TestCase):
 
 
 class Figures(unittest.TestCase):
-    def test_of_f(self) -> None:
-        figures = chain.figures_of(samples.file_f())
-        said = re.search(r"D is (.*?); the rows of A are (.*?); b is T times (.*?)\.\n", section("The figures"), re.DOTALL)
-        self.assertEqual(numbers(re.sub(r"(?<=\d), ", "; ", said[1])), list(figures.own))
-        self.assertEqual(numbers(re.sub(r", ", "; ", said[2])), [entry for row in figures.matrix for entry in row])
-        self.assertEqual([T * factor for factor in numbers(re.sub(r", ", "; ", said[3]))], list(figures.right_hand_side))
+    def test_of_f_with_priors_and_without(self) -> None:
+        text = " ".join(section("The figures").split())
+        told = re.findall(r"D is ([^;]*); the rows of A are ([^;]*); b is T times ([^.]*)\.", text)
+        for file, (own, entries, factors) in zip((samples.file_f(), samples.without_priors(samples.file_f())), told, strict=True):
+            figures = chain.figures_of(file)
+            self.assertEqual(numbers(re.sub(r"(?<=\d), ", "; ", own)), list(figures.own))
+            self.assertEqual(numbers(re.sub(r", ", "; ", entries)), [entry for row in figures.matrix for entry in row])
+            self.assertEqual([T * factor for factor in numbers(re.sub(r", ", "; ", factors))], list(figures.right_hand_side))
+            self.assertEqual(chain.residues_of(figures, (10 * T, T, -T)), [0, 0, 0])
 
 
 class Examples(unittest.TestCase):
@@ -120,8 +123,9 @@ class Examples(unittest.TestCase):
         self.assertEqual((logs[1], logs[1 << 40] % T), (0, 0))
         self.assert_said("From amounts to the loss", f"1 has 0, 2^40 has {logs[1 << 40] // T}T = {logs[1 << 40]:,}, "
                                                      f"3 has {logs[3]:,} and 5 has {logs[5]:,}.")
-        self.assertEqual((weight(1 << 18), weight(1 << 46)), (1 << 28, 1))
-        self.assert_said("From amounts to the loss", "2^28 for 2^18, 1 for 2^46")
+        self.assertEqual((weight(1 << 18), weight(1 << 46), weight(0)), (1 << 28, 1, 0))
+        said = "2^28 for 2^18, 1 for 2^46. The weight of 0, the variance of a part without a prior, is 0."
+        self.assert_said("From amounts to the loss", said)
 
     def test_of_file_f(self) -> None:
         weights = chain.weights_of(samples.file_f())
@@ -249,6 +253,8 @@ class Closeness(unittest.TestCase):
             found = self.total(e, paper.settled_mean(paper.tables_file(e)))
             moved = [self.total(e, [part + sign * e for part in exactly]) - total for sign in (1, -1)]
             self.assertEqual([settled, apart, high, low], [round(found), round(found) - round(total), *map(round, moved)])
+        with self.assertRaises(ValueError):  # at rest without passing, as the text has it
+            paper.settled_mean(paper.tables_file(1, prior_variance=1 << 46))
         two, advised, most = (row[1] for row in table)
         said = f"reserves come to {two:,} with closeness 2, {advised:,} with 256 and {most:,} with 65,536"
         self.assertIn(said, " ".join(README.split()))

@@ -14,7 +14,7 @@ class ObservationByObservation(unittest.TestCase):
         self.cases = []
         for last in range(1, 16):
             for _ in range(4):
-                file = samples.drawn_file(rng, last)
+                file = samples.drawn_any_file(rng, last)
                 m = rng.choice((1, 2, 7, rng.randint(1, 1 << 40)))
                 u = [rng.randint(-m << 27, m << 27) for _ in file.prior_means]
                 self.cases.append((chain.figures_of(file), loss.squares_of(file), u, m))

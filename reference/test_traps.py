@@ -63,7 +63,7 @@ class LastSumOfB(unittest.TestCase):
         wrong = figures.right_hand_side[:self.LAST + 1] + tuple(self.by_start(lambda j: self.LAST - 1))
         mean = tuple(exact.rounded(*exact.solve(figures.matrix, wrong)))
         apart = [abs(a - b) / b for a, b in zip(paper.reserves(self.FILE, mean), paper.RESERVES)]
-        self.assertGreater(max(apart), 0.0002)
+        self.assertGreater(max(apart), 0.0001)
 
 
 class GByDevelopmentYear(unittest.TestCase):

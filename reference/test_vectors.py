@@ -35,6 +35,7 @@ class Made(unittest.TestCase):
     def test_listings(self) -> None:
         self.assertEqual(self.listing("f")[1], "sweeps 0")
         self.assertEqual(self.listing("spent-at-a-limit"), ["spent 4096"])
+        self.assertEqual(self.listing("at-rest"), ["spent 4096"])
         self.assertEqual(self.listing("tables-256")[0], "J 9")
         for last in range(1, 16):
             self.assertIn(self.listing(f"years-{last:02}")[0], (f"J {last}", "spent 4096"))
@@ -45,7 +46,7 @@ class Made(unittest.TestCase):
         self.assertLessEqual({3, 19, 31}, set(map(len, pages)))
         means, own = zip(*((int(line[7:16]), int(line[17:27])) for lines in pages for line in lines))
         self.assertLessEqual({-(1 << 26), 1 << 26, 0, -1}, set(means))
-        self.assertEqual((min(own), max(own)), (65, 17 << 28))
+        self.assertEqual((min(own), max(own)), (64, 17 << 28))
         self.assertEqual({len(str(abs(mean))) for mean in means}, {*range(1, 9)})
         self.assertEqual({len(str(weight)) for weight in own}, {*range(2, 11)})
 
@@ -78,6 +79,20 @@ class Made(unittest.TestCase):
                 self.assertEqual(self.listing(f"refused-{number:02}-{end}"), [f"refused {number} at {place}"])
         self.assertEqual(self.listing("refused-10-short"), ["refused 10 at 78"])
         self.assertEqual(self.listing("refused-10-long"), ["refused 10 at 750"])
+
+    def test_flat_priors(self) -> None:
+        """Taken where they should be; other variances below 2^18 and means beyond their limits refused, at lowest and highest places."""
+        self.assertEqual(self.listing("flat-all-01"), self.listing("f"))
+        self.assertEqual([self.listing(f"flat-{where}-15")[0] for where in ("all", "first", "last")], ["J 15"] * 3)
+        self.assertEqual(self.listing("flat-spent"), ["spent 4096"])
+        for last, mean_at in ((1, 34), (15, 618)):
+            for variance in ("1", "below-the-least", "above-the-most"):
+                self.assertEqual(self.listing(f"prior-variance-{variance}-{last:02}"), [f"refused 7 at {mean_at + 4}"])
+            for mean in ("below-the-lowest", "above-the-highest"):
+                self.assertEqual(self.listing(f"flat-mean-{mean}-{last:02}"), [f"refused 8 at {mean_at}"])
+            for taken in ("prior-variance-least", "prior-variance-most", "flat-mean-lowest", "flat-mean-highest"):
+                self.assertEqual(self.listing(f"{taken}-{last:02}")[0], f"J {last}")
+        self.assertEqual(self.listing("flat-mean-and-variance-1"), ["refused 7 at 62"])
 
     def test_lengths(self) -> None:
         for name, length in (("0", 0), ("2806", 2_806), ("2807", 2_807), ("100000", 100_000)):

@@ -14,6 +14,7 @@ from io import BytesIO
 from pathlib import Path
 from random import Random
 
+import samples
 import script
 import vectors_calls
 import vectors_listing
@@ -66,7 +67,7 @@ def make_random(seed: int, count: int) -> Vectors:
     return {
         **_printed("listing", files),
         **_printed("board_page", files),
-        **_scripts("calls", {number: b"".join(vectors_calls.drawn_session(rng)) for number in numbers}),
+        **_scripts("calls", {number: b"".join(vectors_calls.drawn_session(rng, samples.drawn_any_file)) for number in numbers}),
     }
 
 

@@ -8,7 +8,7 @@ import samples
 import vectors_listing
 from layout import LARGEST_YEAR, MEAN_LIMITS, File, build_file, parts_count
 
-# Inputs of the listing's vectors, by name, which are kept once. Those of the limits have the least own weights and the most.
+# Inputs of the listing's vectors, by name, which are kept once. Those of the limits have the most own weight, and without priors the least.
 OF_THE_LISTING = (
     "f-closeness-2", "f-year-1-paid-0", "f-other-last-incurred",
     "refused-01-short", "refused-02-long", "refused-03-short", "refused-04-long", "refused-05-short",
@@ -16,6 +16,7 @@ OF_THE_LISTING = (
     "limits-low-01", "limits-low-15", "limits-high-01", "limits-high-15",
     "length-0", "length-2806", "length-2807", "length-2807-counted",
     "spent-at-a-limit", "many-sweeps", "years-01", "years-14",
+    "flat-all-01", "flat-all-15", "flat-limits-high-01", "flat-limits-high-15", "flat-spent", "prior-variance-1-01",
 )
 
 

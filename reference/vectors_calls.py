@@ -1,6 +1,6 @@
 """The script of calls: scenes of one or more sessions each; a scene starts and ends with nothing open."""
 
-from collections.abc import Iterable, Iterator
+from collections.abc import Callable, Iterable, Iterator
 from dataclasses import replace
 from itertools import pairwise
 from random import Random
@@ -9,6 +9,7 @@ import layout
 import paper
 import samples
 import session
+import vectors_flat_priors
 from call_bytes import (
     CLOSE, FIGURES, call_judge, call_open, call_page, call_read, call_row, call_sweep, number, string,
 )
@@ -47,6 +48,10 @@ def script_of_scenes(seed: int, drawn_sessions: int = 60) -> bytes:
         *(pages(samples.file_at_limits(last, end)) for last in (1, LARGEST_YEAR) for end in (0, 1)),
         damaged_files(rng),
         *(drawn_session(rng) for _ in range(drawn_sessions)),
+        flat_priors_beside_others(),
+        *(flat_priors(file) for file in vectors_flat_priors.accepted_files().values()),
+        *(settle_and_read(rng, samples.drawn_flat_file(rng, last)) for last in (1, 2, 3, 5, 9, LARGEST_YEAR)),
+        *(drawn_session(rng, samples.drawn_flat_file) for _ in range(drawn_sessions // 4)),
     ]
     return b"".join(call for scene in scenes for call in scene)
 
@@ -169,7 +174,7 @@ def tables(closeness: int) -> Iterator[bytes]:
 def spent() -> Iterator[bytes]:
     """23, reached in one call and in many; 12 before it; judge, read and page go on; reopening starts anew."""
     at_limits = (samples.spent_at_a_limit(closeness, sign) for closeness in (1, 65_536) for sign in (1, -1))
-    for file in (*at_limits, paper.tables_file(1)):
+    for file in (*at_limits, paper.tables_file(1, prior_variance=1 << 46)):
         lent, record = build_file(file), build_record(file.prior_means)
         yield from (call_open(lent), *map(call_sweep, (1 << k for k in range(12))), call_read(0))
         yield from map(call_sweep, (1, 1, 0, 4_097, 4_096))  # to 4,096, then 23, 12, 12, 23
@@ -242,6 +247,21 @@ def pages(file: File) -> Iterator[bytes]:
     yield from (*held, call_page(size), CLOSE, call_page(size))
 
 
+def flat_priors_beside_others() -> Iterator[bytes]:
+    """Every prior variance and mean at a limit or one past it beside flat priors: open and row take or refuse them alike."""
+    for lent in vectors_flat_priors.beside_flat_priors().values():
+        yield from (call_row(lent, 1, lent[5]), call_open(lent), CLOSE)
+
+
+def flat_priors(file: File) -> Iterator[bytes]:
+    """Figures, means near the settled one, and the session from its start, which is the prior means, to the end."""
+    yield from (call_open(build_file(file)), FIGURES, call_judge(build_record(file.prior_means)))
+    yield from (call_sweep(1), call_read(record_length(file.last)))
+    mean = swept(file, session.MOST_SWEEPS)
+    yield from (call_judge(record) for record in records_near(mean, (0, 1, -1, file.closeness, -2 * file.closeness)))
+    yield from (call_sweep(4_096), call_read(record_length(file.last)), call_page(page_length(file.last)), CLOSE)
+
+
 def damaged_files(rng: Random) -> Iterator[bytes]:
     for _ in range(60):
         lent = drawn_file_damage(rng, build_file(samples.drawn_file(rng, rng.randint(1, 3))))
@@ -262,9 +282,9 @@ def every_length() -> Iterator[bytes]:
             yield call_open(layout.with_length(lent[4:])) + CLOSE
 
 
-def drawn_session(rng: Random) -> Iterator[bytes]:
+def drawn_session(rng: Random, draw: Callable[[Random, int], File] = samples.drawn_file) -> Iterator[bytes]:
     """Some dozens of calls, mostly on one file of few years, now and then on a longer one."""
-    file = samples.drawn_file(rng, rng.choice((1, 1, 2, 2, 3, 4, 6, rng.randint(1, LARGEST_YEAR))))
+    file = draw(rng, rng.choice((1, 1, 2, 2, 3, 4, 6, rng.randint(1, LARGEST_YEAR))))
     mean = swept(file, session.MOST_SWEEPS)
     if rng.randrange(4):
         yield call_open(build_file(file))

@@ -5,6 +5,7 @@ from random import Random
 import layout
 import paper
 import samples
+import vectors_flat_priors
 from damage import SPOIL_FILE, drawn_file_damage, fields_of, put
 from layout import LARGEST_YEAR, LONGEST_FILE, build_file
 
@@ -23,12 +24,13 @@ def listing_inputs(seed: int) -> dict[str, bytes]:
         **_hard_to_settle(),
         **{name: build_file(file) for name, file in years.items()},
         **{f"damaged-{k}": drawn_file_damage(rng, build_file(samples.drawn_file(rng, 2))) for k in range(8)},
+        **vectors_flat_priors.inputs(),
     }
 
 
 def drawn_listing_input(rng: Random) -> bytes:
     """For long comparisons: mostly accepted files."""
-    lent = build_file(samples.drawn_file(rng))
+    lent = build_file(samples.drawn_any_file(rng))
     return drawn_file_damage(rng, lent) if rng.randrange(4) == 0 else lent
 
 
@@ -107,4 +109,5 @@ def _hard_to_settle() -> dict[str, bytes]:
         "many-sweeps-256": build_file(samples.many_sweeps(closeness=256)),
         "half-above": build_file(samples.half_tick(1)),
         "half-below": build_file(samples.half_tick(-1)),
+        "at-rest": build_file(paper.tables_file(1, prior_variance=1 << 46)),
     }

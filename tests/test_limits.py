@@ -30,7 +30,7 @@ WRITTEN = {
     3: (r"^check3 s = unless \(within (.+?) (.+?) \(lastYear s\)\)",),
     5: (r"^check5 s = unless \(within (.+?) (.+?) \(closeness s\)\)",),
     6: (r"^goodVariance v = within \((.+?)\) \((.+?)\) v",),
-    7: (r"^goodPriorVariance v = within \((.+?)\) \((.+?)\) v",),
+    7: (r"^goodPriorVariance v = eqb v (.+?) \|\| within \((.+?)\) \((.+?)\) v",),
     8: (r"^goodPart z = leb \(natAbs z\) (?P<size>.+)",),
     9: (r"^goodAmount a = within (.+?) (.+?) a$",),
     11: (r"^goodPart z = leb \(natAbs z\) (?P<size>.+)",),
@@ -138,7 +138,7 @@ class Limits(unittest.TestCase):
         last, part = value("yearLimit"), value("partLimit")
         doublings = part // reserving_desk.TICKS_PER_DOUBLING
         years = [2, last + 1, *defined(3)]
-        self.assertEqual(numbers_in(said), years + defined(9) + [part, doublings] + defined(5) + defined(23))
+        self.assertEqual(numbers_in(said), years + defined(9) + defined(7) + [part, doublings] + defined(5) + defined(23))
 
     def test_of_what_is_guaranteed(self) -> None:
         ticks = re.search(r"a doubling has ([\d,]+)\.", README)[1]
@@ -151,8 +151,9 @@ class Limits(unittest.TestCase):
     def test_of_the_reference(self) -> None:
         for number, limits in (
             (1, (layout.HEAD_LENGTH, layout.RECORD_HEAD_LENGTH)), (2, (layout.VERSION,)), (3, (1, layout.LARGEST_YEAR)),
-            (5, layout.CLOSENESS_LIMITS), (6, layout.VARIANCE_LIMITS), (7, layout.PRIOR_VARIANCE_LIMITS), (8, layout.MEAN_LIMITS),
-            (9, layout.AMOUNT_LIMITS), (11, layout.MEAN_LIMITS), (12, (1, session.MOST_SWEEPS)), (14, (layout.INCURRED,)),
+            (5, layout.CLOSENESS_LIMITS), (6, layout.VARIANCE_LIMITS), (7, (layout.FLAT, *layout.PRIOR_VARIANCE_LIMITS)),
+            (8, layout.MEAN_LIMITS), (9, layout.AMOUNT_LIMITS), (11, layout.MEAN_LIMITS), (12, (1, session.MOST_SWEEPS)),
+            (14, (layout.INCURRED,)),
         ):
             self.assertEqual(list(limits), defined(number), number)
 

@@ -60,6 +60,9 @@ PINNED = {
         "logarithm-within-two-ticks Machine opens judges judges-alone sweeps reads reads-alone pages pages-alone shows "
         "tells closes machine same-outcomes row-empty larger-logarithm loss-around divided-fits paid-sum-fits incurred-sum-fits",
     "laws/PinnedPage": "page-bytes name-on-page index-on-page ticks-on-page weight-on-page spaces-on-page never-shared",
+    "laws/FlatPriors":
+        "check7By fileCheckBy openCheckBy rowCheckBy openBy fileCheck-is prior-variance-is weighs still-accepted opened-alike row-alike "
+        "same-but-for-0 own-of-phi own-of-psi right-hand-of-phi right-hand-of-psi observed-phi observed-psi",
     "row_starts/Pinned": "sixteen cells-counted none-counted",
     "holding/Pinned": "open-file reached-open",
     "opening/Pinned": "open-refused opened-holds",
@@ -86,6 +89,12 @@ STARRED = {
     "log-of-1", "log-of-2^40", "log-of-3", "weight-of-2^18", "weight-of-2^46", "F-accepted", "F-p", "F-q", "F-g", "F-own", "F-matrix",
     "F-right-hand", "zero-residues", "zero-residues-pass", "residue-at-the-bound", "one-tick-passes", "two-ticks-fail", "part-1-fails",
     "part-1-passes-with-e-2",
+}
+
+# F without priors, and the prior variances that are refused beside them.
+WITHOUT_PRIORS = {
+    "weight-of-0", "flat-accepted", "flat-own", "flat-matrix", "flat-right-hand", "flat-listing", "flat-first", "flat-last",
+    "prior-variance-1", "prior-variance-below", "prior-variance-above",
 }
 
 # Those of document 02's page and of its call, and the listing beside them.
@@ -118,7 +127,7 @@ class Promises(unittest.TestCase):
 
     def test_cases_of_the_joint_table(self) -> None:
         table = text_of("crates/definitions/specs/JointTable.antt").split("pub record JointTable")[1].split("pub jointTable")[0]
-        self.assertEqual(set(re.findall(r"^  pub (\S+) :", table, re.MULTILINE)), STARRED | OF_THE_PAGE)
+        self.assertEqual(set(re.findall(r"^  pub (\S+) :", table, re.MULTILINE)), STARRED | OF_THE_PAGE | WITHOUT_PRIORS)
 
     def test_every_call_is_in_the_specification(self) -> None:
         for module in ("calls", "state"):

@@ -13,11 +13,10 @@ ROOT = Path(__file__).resolve().parents[2]
 sys.path[1:1] = [str(ROOT / "python"), str(ROOT / "reference")]
 
 from paper import INCURRED, PAID, RESERVES, RESERVES_TOTAL, SIGMA, TAU  # the tables, and nothing else of the reference
-from reserving_desk import Mean, Prior, Session, file_of, natural_log, squared_ticks
+from reserving_desk import Mean, Session, file_of, natural_log, squared_ticks
 
 LAST = len(PAID) - 1  # J
-CLOSENESS = 2  # in ticks; at 1 this file's mean comes to rest without passing
-NO_OPINION = Prior(mean=0, variance=1 << 46)  # the widest prior that a file can give
+CLOSENESS = 256  # in ticks: the sample's
 
 # Table 2 prints deviations in units of 0.0001; here they are variances of natural logarithms.
 SIGMA_SQUARED = [(deviation / 10_000) ** 2 for deviation in SIGMA]
@@ -30,8 +29,8 @@ def tables_file() -> bytes:
         INCURRED,
         sigma_squared=[squared_ticks(f"{deviation}e-4") for deviation in SIGMA],
         tau_squared=[squared_ticks(f"{deviation}e-4") for deviation in TAU],
-        phi_priors=[NO_OPINION] * (LAST + 1),
-        psi_priors=[NO_OPINION] * LAST,
+        phi_priors=[None] * (LAST + 1),  # the paper's example has no priors
+        psi_priors=[None] * LAST,
         closeness=CLOSENESS,
     )
 

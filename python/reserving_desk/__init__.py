@@ -14,17 +14,17 @@ allowed. Parts of a mean are ticks: a doubling has 1,048,576. docs/SPECIFICATION
 """
 
 from .answers import Figures, Judgement, Sweeping
-from .builders import Prior, file_of, record_of
+from .builders import Prior, file_of, flat_prior, record_of
 from .layout import INCURRED, MOST_SWEEPS, PAID, Mean, cell_place
 from .library import LibraryMissing, SizesDiffer
 from .refusals import Refused
 from .scales import TICKS_PER_DOUBLING, natural_log, squared_ticks, ticks
 from .session import Session
 
-__version__ = "1.3.0"
+__version__ = "1.4.0"
 
 __all__ = [
     "INCURRED", "MOST_SWEEPS", "PAID", "TICKS_PER_DOUBLING",
     "Figures", "Judgement", "LibraryMissing", "Mean", "Prior", "Refused", "Session", "SizesDiffer", "Sweeping",
-    "cell_place", "file_of", "natural_log", "record_of", "squared_ticks", "ticks",
+    "cell_place", "file_of", "flat_prior", "natural_log", "record_of", "squared_ticks", "ticks",
 ]

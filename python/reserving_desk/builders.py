@@ -7,21 +7,26 @@ field, while one that fits and is beyond the desk's limits is written, and the d
 from __future__ import annotations
 
 from collections.abc import Iterable, Iterator, Sequence
-from typing import Any, NamedTuple
+from typing import Any, NamedTuple, Optional
 
 from .arguments import counted, sequence, sequence_of, shown, whole, wrong_type
 from .layout import VERSION, Field, Mean, file_fields, record_fields
-from .wording import limits
+from .wording import allowed
 from .wording import number as in_words
 
 Triangle = Sequence[Sequence[int]]  # accident year 0 first; accident year i has columns 0..J-i
 
 
 class Prior(NamedTuple):
-    """Of one part: its mean in ticks and its variance in squared ticks."""
+    """Of one part: its mean in ticks and its variance in squared ticks. A variance of 0 is no prior, and not a certain one."""
 
     mean: int
     variance: int
+
+
+def flat_prior(mean: int = 0) -> Prior:
+    """Of a part without a prior: it weighs nothing, and its mean is only where the sweep starts."""
+    return Prior(mean, 0)
 
 
 def file_of(
@@ -30,15 +35,15 @@ def file_of(
     *,
     sigma_squared: Sequence[int],
     tau_squared: Sequence[int],
-    phi_priors: Sequence[tuple[int, int]],
-    psi_priors: Sequence[tuple[int, int]],
+    phi_priors: Sequence[Optional[tuple[int, int]]],
+    psi_priors: Sequence[Optional[tuple[int, int]]],
     closeness: int,
 ) -> bytes:
     """The file of two triangles of cumulative amounts; J is the number of accident years less 1.
 
     Variances are in squared ticks (`squared_ticks`): sigma squared of development years 0..J, tau squared of 0..J-1. The priors of
-    phi 0..J and psi 0..J-1 are pairs of mean and variance, as `Prior`. Where each amount then stands in the file, `cell_place` tells,
-    and docs/CELLS.md prints it for the rows of every J.
+    phi 0..J and psi 0..J-1 are pairs of mean and variance, as `Prior`, or None for a part without one, as `flat_prior()`. Where each
+    amount then stands in the file, `cell_place` tells, and docs/CELLS.md prints it for the rows of every J.
     """
     last = len(sequence("paid", "a sequence of accident years", paid)) - 1
     if last < 0:
@@ -64,10 +69,10 @@ def _amounts(name: str, triangle: Any, last: int) -> Iterator[Any]:
 
 def _priors(name: str, priors: Any, wanted: int) -> Iterator[Any]:
     """Mean and variance of each, in turn."""
-    pair_wanted = "a pair of mean and variance"
+    pair_wanted = "a pair of mean and variance, or None"
     for year, prior in enumerate(sequence_of(name, "prior", priors, wanted)):
         whose = f"{name} of development year {year}"
-        pair = sequence(whose, pair_wanted, prior)
+        pair = flat_prior() if prior is None else sequence(whose, pair_wanted, prior)
         if len(pair) != 2:
             raise ValueError(f"{whose} must be {pair_wanted}, not {shown(prior)}")
         yield from pair
@@ -85,5 +90,5 @@ def _bytes_of(field: Field, given: int) -> bytes:
     low, high = kind.held()
     if not low <= number <= high:
         held = f"{counted(kind.width, 'byte')} cannot hold {in_words(number)}"
-        raise ValueError(f"{field.name} must be from {limits(*kind.limits, kind.unit)}: its {held}")
+        raise ValueError(f"{field.name} must be from {allowed(kind)}: its {held}")
     return number.to_bytes(kind.width, "big", signed=kind.signed)

@@ -12,7 +12,7 @@ from .layout import (
 )
 from .library import Refusal
 from .refusals import Refused
-from .wording import limits, measured, number
+from .wording import allowed, limits, measured, number
 
 WITHOUT_ARTICLE = ("sigma", "tau", "phi", "psi", "n")
 
@@ -78,17 +78,17 @@ def refused_row(refusal: Refusal, file: bytes, channel: int, year: int) -> Refus
     return refused_file(refusal, file)
 
 
-def _outside(name: str, value: int, allowed: str, unit: Unit = Unit.NUMBER) -> Details:
+def _outside(name: str, value: int, told: str, unit: Unit = Unit.NUMBER) -> Details:
     subject = name if name.split(" ")[0] in WITHOUT_ARTICLE else f"the {name}"
     subject += "," if "," in name else ""  # which closes "accident year 1, development year 0"
-    verb = "is" if allowed.isdigit() else "are"
-    return Details(name, value, allowed, f"{subject} is {measured(value, unit)}; allowed {verb} {allowed}")
+    verb = "is" if told.isdigit() else "are"
+    return Details(name, value, told, f"{subject} is {measured(value, unit)}; allowed {verb} {told}")
 
 
 def _field_at(place: int, lent: bytes, fields: Iterable[Field]) -> Details:
     field = next(field for start, field in placed(fields) if start == place)
     kind = field.kind
-    return _outside(field.name, kind.number_at(lent, place), limits(*kind.limits, kind.unit), kind.unit)
+    return _outside(field.name, kind.number_at(lent, place), allowed(kind), kind.unit)
 
 
 def _length_said(thing: str, lent: bytes, header: int) -> Details:

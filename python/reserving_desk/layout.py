@@ -31,12 +31,14 @@ class Unit(Enum):
 
 @dataclass(frozen=True)
 class Kind:
-    """Of fields: so many big-endian bytes, in two's complement where signed; the least and the greatest number that the desk accepts."""
+    """Of fields: so many big-endian bytes, in two's complement where signed; the least and the greatest number that the desk accepts, and
+    what 0 stands for where it is accepted besides."""
 
     width: int
     limits: tuple[int, int]
     unit: Unit = Unit.NUMBER
     signed: bool = False
+    zero: str = ""
 
     def held(self) -> tuple[int, int]:
         """The least and the greatest number that the bytes can hold, whatever the desk accepts."""
@@ -52,7 +54,7 @@ VERSION_BYTE = Kind(1, (VERSION, VERSION))
 LAST_YEAR = Kind(1, (1, LARGEST_YEAR))
 CLOSENESS = Kind(4, (1, 1 << 16), Unit.TICKS)
 VARIANCE = Kind(8, (1 << 18, 1 << 40), Unit.VARIANCE)
-PRIOR_VARIANCE = Kind(8, (1 << 18, 1 << 46), Unit.VARIANCE)
+PRIOR_VARIANCE = Kind(8, (1 << 18, 1 << 46), Unit.VARIANCE, zero="no prior")
 PART = Kind(4, (-(1 << 26), 1 << 26), Unit.LOGARITHM, signed=True)  # of a mean, and of the prior mean
 AMOUNT = Kind(8, (1, 1 << 40))
 

@@ -11,7 +11,7 @@ WORDS = {
     4: "the length does not suit the number of development years",
     5: "the closeness must be from 1 to 65,536 ticks",
     6: "a variance of sigma or tau must be from 2^18 to 2^40 squared ticks",
-    7: "the variance of a prior must be from 2^18 to 2^46 squared ticks",
+    7: "the variance of a prior must be 0 (no prior) or from 2^18 to 2^46 squared ticks",
     8: "the mean of a prior must be from -2^26 to 2^26 ticks",
     9: "an amount must be from 1 to 2^40",
     10: "the oldest accident year must end with the same amount paid as incurred",

@@ -5,7 +5,7 @@ from __future__ import annotations
 from decimal import Decimal
 from math import sqrt
 
-from .layout import Unit
+from .layout import Kind, Unit
 from .scales import TICKS_PER_DOUBLING, natural_log
 
 LONGEST_NUMBER = 128  # in bits; Python itself turns numbers of many thousand digits into no text
@@ -36,6 +36,11 @@ def limits(low: int, high: int, unit: Unit = Unit.NUMBER) -> str:
     if unit is Unit.VARIANCE:
         return f"{figures}, a standard deviation from {deviation(low)} to {deviation(high)}"
     return figures
+
+
+def allowed(kind: Kind) -> str:
+    """What the desk accepts in a field, as "1 to 1,099,511,627,776"."""
+    return limits(*kind.limits, kind.unit) + (f", or 0 for {kind.zero}" if kind.zero else "")
 
 
 def doublings(ticks: int) -> str:

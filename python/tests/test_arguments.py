@@ -165,7 +165,7 @@ class OfFiles(Named):
         self.assert_wrong(TypeError, "incurred of accident year 0 must be a sequence of amounts, not '12'", incurred=("12", (1,)))
 
     def test_priors_that_are_no_pairs(self) -> None:
-        pair = "must be a pair of mean and variance, not"
+        pair = "must be a pair of mean and variance, or None, not"
         self.assert_wrong(TypeError, f"phi_priors of development year 1 {pair} 5", phi_priors=[(0, 1), 5])
         self.assert_wrong(TypeError, f"psi_priors of development year 0 {pair} '12'", psi_priors=["12"])
         self.assert_wrong(ValueError, f"phi_priors of development year 0 {pair} (1, 2, 3)", phi_priors=[(1, 2, 3), (1, 2)])

@@ -3,13 +3,14 @@
 import unittest
 from dataclasses import replace
 from random import Random
+from typing import Optional
 
 import paths  # noqa: F401
 
 import layout
 import samples
 from layout import File, build_file, build_record
-from reserving_desk import Mean, Prior, Refused, Session, file_of, record_of
+from reserving_desk import Mean, Prior, Refused, Session, file_of, flat_prior, record_of
 
 DOUBLINGS = "must be from -64 to 64 doublings, that is -67,108,864 to 67,108,864 ticks: its 4 bytes cannot hold"
 
@@ -39,7 +40,7 @@ def refusal_number(file: bytes) -> int:
 class Files(unittest.TestCase):
     def test_as_the_reference_builds_them(self) -> None:
         rng = Random("builders")
-        drawn = [samples.drawn_file(rng, last) for last in range(1, 16) for _ in range(4)]
+        drawn = [samples.drawn_any_file(rng, last) for last in range(1, 16) for _ in range(4)]
         limits = [samples.file_at_limits(last, end) for last in (1, 15) for end in (0, 1)]
         for file in (samples.file_f(), *drawn, *limits):
             self.assertEqual(built(file), build_file(file))
@@ -50,7 +51,7 @@ class Files(unittest.TestCase):
             3: samples.file_at_limits(16, 0),
             5: replace(f, closeness=(1 << 32) - 1),
             6: replace(f, sigma2=(0, 1 << 30)),
-            7: replace(f, prior_variances=(1 << 46, 1 << 46, (1 << 64) - 1)),
+            7: replace(f, prior_variances=(0, 1, (1 << 64) - 1)),
             8: replace(f, prior_means=(-(1 << 31), (1 << 31) - 1, 0)),
             9: replace(f, paid=((1 << 10, 1 << 11), (0,))),
             10: replace(f, incurred=((1 << 12, 1 << 12), (1 << 12,))),
@@ -65,7 +66,8 @@ class Files(unittest.TestCase):
         f = samples.file_f()
         ticks = "must be from 1 to 65,536 ticks: its 4 bytes cannot hold"
         variance = "must be from 262,144 to 1,099,511,627,776, a standard deviation from 0.00034 to 0.69: its 8 bytes cannot hold"
-        prior = "must be from 262,144 to 70,368,744,177,664, a standard deviation from 0.00034 to 5.5: its 8 bytes cannot hold"
+        prior = "must be from 262,144 to 70,368,744,177,664, a standard deviation from 0.00034 to 5.5, or 0 for no prior: " \
+            "its 8 bytes cannot hold"
         amount = "must be from 1 to 1,099,511,627,776: its 8 bytes cannot hold"
         wrong = {
             f"closeness {ticks} 4,294,967,296": replace(f, closeness=1 << 32),
@@ -83,6 +85,37 @@ class Files(unittest.TestCase):
             with self.assertRaises(ValueError) as caught:
                 built(file)
             self.assertEqual(str(caught.exception), message)
+
+
+class WithoutPriors(unittest.TestCase):
+    def given(self, phi_priors: list[Optional[Prior]], psi_priors: list[Optional[Prior]]) -> bytes:
+        f = samples.file_f()
+        return file_of(
+            f.paid, f.incurred, sigma_squared=f.sigma2, tau_squared=f.tau2, phi_priors=phi_priors, psi_priors=psi_priors, closeness=1,
+        )
+
+    def test_a_flat_prior_is_one_of_variance_0(self) -> None:
+        self.assertEqual((flat_prior(), flat_prior(5), flat_prior(mean=-7)), (Prior(0, 0), Prior(5, 0), Prior(-7, 0)))
+
+    def test_none_is_a_part_without_a_prior(self) -> None:
+        self.assertEqual(self.given([None, None], [None]), self.given([flat_prior(), Prior(0, 0)], [flat_prior(0)]))
+        one = self.given([Prior(3, 1 << 46), None], [Prior(-4, 1 << 18)])
+        self.assertEqual(one, self.given([Prior(3, 1 << 46), flat_prior()], [Prior(-4, 1 << 18)]))
+
+    def test_the_sweep_starts_at_its_mean(self) -> None:
+        """Without priors F settles on the same mean from afar, and its own weights are those of its observations."""
+        settled = Mean(phi=(10 << 20, 1 << 20), psi=(-(1 << 20),))
+        for means in ((10 << 20, 1 << 20, -(1 << 20)), (0, 0, 0), (1 << 26, -(1 << 26), 1 << 26)):
+            with Session() as desk:
+                desk.open(self.given([flat_prior(mean) for mean in means[:2]], [flat_prior(means[2])]))
+                self.assertEqual(desk.figures().own_weights, (131_072, 65_536, 65_536))
+                first = desk.sweep()
+                self.assertEqual((first.settled, first.total == 0), (True, means == settled.parts))
+                self.assertLessEqual(max(abs(a - b) for a, b in zip(desk.read().parts, settled.parts)), 1)
+
+    def test_a_flat_prior_s_mean_has_limits(self) -> None:
+        for mean, number in ((1 << 26, 0), (-(1 << 26), 0), ((1 << 26) + 1, 8), (-(1 << 26) - 1, 8)):
+            self.assertEqual(refusal_number(self.given([None, flat_prior(mean)], [None])), number)
 
 
 class Records(unittest.TestCase):

@@ -47,8 +47,8 @@ class OfAFile(unittest.TestCase):
         ):
             self.assert_said(damage.put(F, 10, value, 8), f"refused 6 at 10: {VARIANCE} ({sigma} {shown}; allowed are {VARIANCES})")
         said = "the prior variance of psi of development year 0 is 262,143 squared ticks, a standard deviation of 0.00034"
-        allowed = "262,144 to 70,368,744,177,664, a standard deviation from 0.00034 to 5.5"
-        words = "the variance of a prior must be from 2^18 to 2^46 squared ticks"
+        allowed = "262,144 to 70,368,744,177,664, a standard deviation from 0.00034 to 5.5, or 0 for no prior"
+        words = "the variance of a prior must be 0 (no prior) or from 2^18 to 2^46 squared ticks"
         self.assert_said(damage.put(F, 62, (1 << 18) - 1, 8), f"refused 7 at 62: {words} ({said}; allowed are {allowed})")
 
     def test_prior_means(self) -> None:
@@ -129,6 +129,8 @@ class Limits(unittest.TestCase):
             (package.AMOUNT, layout.AMOUNT_LIMITS),
         ):
             self.assertEqual(kind.limits, limits)
+            self.assertEqual(bool(kind.zero), kind is package.PRIOR_VARIANCE)
+        self.assertEqual(layout.FLAT, 0)
 
     def test_of_headers(self) -> None:
         self.assertEqual(package.FILE_HEADER_LENGTH, layout.HEAD_LENGTH)

@@ -1,4 +1,4 @@
-"""The example: the file is the sample's but for its closeness, and its reserves are the paper's to 0.02 per cent."""
+"""The example: the file is the sample, and its reserves are the paper's to 0.01 per cent."""
 
 import re
 import subprocess
@@ -19,6 +19,7 @@ EXAMPLE = ROOT / "python" / "examples" / "table_3.py"
 class Table3(unittest.TestCase):
     def test_file(self) -> None:
         self.assertEqual(table_3.tables_file(), layout.build_file(paper.tables_file(table_3.CLOSENESS)))
+        self.assertEqual(table_3.tables_file(), (ROOT / "samples" / "tables-10-11.file").read_bytes())
 
     def test_mean(self) -> None:
         mean = table_3.settled_mean(table_3.tables_file())
@@ -31,8 +32,8 @@ class Table3(unittest.TestCase):
         self.assertEqual([(row[0], int(row[2].replace(",", ""))) for row in rows], printed + [("total", paper.RESERVES_TOTAL)])
         for _, reserve, printed_reserve, apart in rows:
             ours, theirs = (int(figure.replace(",", "")) for figure in (reserve, printed_reserve))
-            self.assertLessEqual(abs(ours - theirs), 0.0002 * theirs)
-            self.assertLessEqual(abs(float(apart)), 0.02)
+            self.assertLessEqual(abs(ours - theirs), 0.0001 * theirs)
+            self.assertLessEqual(abs(float(apart)), 0.01)
 
 
 if __name__ == "__main__":

@@ -1,5 +1,5 @@
--- The specification's examples that document 01 marks with a star ("Figures to agree on"), and the page and the listing of F, together,
--- computed from the definitions.
+-- The specification's examples that document 01 marks with a star ("Figures to agree on"), the page and the listing of F, and F without
+-- priors, together, computed from the definitions.
 use Prim.Native.Nat.{ℕ, _+_, _^_}
 use mathlib.Core.Path.{_≡_, refl}
 use mathlib.Core.Bool.{true}
@@ -12,7 +12,7 @@ use Rattle.definitions.specs.Words.{tabFrom, part}
 use Rattle.definitions.specs.Logarithm.{logarithm, bitsOf, highestBit, startFrom, nextBit, nextY}
 use Rattle.definitions.specs.Weight.{weight}
 use Rattle.definitions.specs.Layout.{Bytes, bigEndian, unsigned, twosComplement, rowStart}
-use Rattle.definitions.specs.Refusals.{fields, check1, check2, check3, check4, check5, check6, check7, check8, check9, check10, fileCheck}
+use Rattle.definitions.specs.Refusals.{refuses, fields, check1, check2, check3, check4, check5, check6, check7, check8, check9, check10, fileCheck}
 use Rattle.definitions.specs.Observations.{Chain, chainOf, ratioVariance, paidStep, incurredStep, lastRatio}
 use Rattle.definitions.specs.Matrix.{Φ, Ψ, Figures, figuresOf, partOf, own, matrix, rightHand, residue, passed, fails, judgement, judgeFrom}
 use Rattle.definitions.specs.Text.{ascii, decimalFrom, signedDecimal, aligned, nameOf, indexOf, lines}
@@ -20,7 +20,7 @@ use Rattle.definitions.specs.Page.{pageLine, pageOf}
 use Rattle.definitions.specs.Machine.{accepted, check16, refused, written, State, empty, holds, Outcome, openCall, sweepCall, writeCall, pageCall}
 use Rattle.definitions.specs.Programs.{partLine, sweepText, openText, programText, listed, listing, boardPage}
 
--- ---- File F, byte by byte, with closeness e: J = 1, σ² and τ² all 2^30, prior variances 2^46, prior means 10T, T, −T
+-- ---- File F, byte by byte, with closeness e: J = 1, σ² and τ² all 2^30, prior means 10T, T, −T. The prior variances of F are 2^46.
 
 abbrev 2^30-in-8 : Bytes
 2^30-in-8 = 0 ∷ 0 ∷ 0 ∷ 0 ∷ 64 ∷ 0 ∷ 0 ∷ 0 ∷ []
@@ -28,20 +28,40 @@ abbrev 2^30-in-8 : Bytes
 abbrev 2^46-in-8 : Bytes
 2^46-in-8 = 0 ∷ 0 ∷ 64 ∷ 0 ∷ 0 ∷ 0 ∷ 0 ∷ 0 ∷ []
 
+abbrev 0-in-8 : Bytes
+0-in-8 = 0 ∷ 0 ∷ 0 ∷ 0 ∷ 0 ∷ 0 ∷ 0 ∷ 0 ∷ []
+
+abbrev 1-in-8 : Bytes
+1-in-8 = 0 ∷ 0 ∷ 0 ∷ 0 ∷ 0 ∷ 0 ∷ 0 ∷ 1 ∷ []
+
+-- one below 2^18, and one above 2^46
+abbrev below-2^18-in-8 : Bytes
+below-2^18-in-8 = 0 ∷ 0 ∷ 0 ∷ 0 ∷ 0 ∷ 3 ∷ 255 ∷ 255 ∷ []
+
+abbrev above-2^46-in-8 : Bytes
+above-2^46-in-8 = 0 ∷ 0 ∷ 64 ∷ 0 ∷ 0 ∷ 0 ∷ 0 ∷ 1 ∷ []
+
 -- 256·b, for the amounts
 abbrev amount-in-8 : ℕ → Bytes
 amount-in-8 b = 0 ∷ 0 ∷ 0 ∷ 0 ∷ 0 ∷ 0 ∷ b ∷ 0 ∷ []
 
-abbrev pub fileF : ℕ → Bytes
-fileF e =
+abbrev fileOf : ℕ → (v₀ v₁ v₂ : Bytes) → Bytes
+fileOf e v₀ v₁ v₂ =
     (0 ∷ 0 ∷ 0 ∷ 118 ∷ 1 ∷ 1 ∷ 0 ∷ 0 ∷ 0 ∷ e ∷ [])
     ++ 2^30-in-8 ++ 2^30-in-8 ++ 2^30-in-8
-    ++ (0 ∷ 160 ∷ 0 ∷ 0 ∷ []) ++ 2^46-in-8
-    ++ (0 ∷ 16 ∷ 0 ∷ 0 ∷ []) ++ 2^46-in-8
-    ++ (255 ∷ 240 ∷ 0 ∷ 0 ∷ []) ++ 2^46-in-8
+    ++ (0 ∷ 160 ∷ 0 ∷ 0 ∷ []) ++ v₀
+    ++ (0 ∷ 16 ∷ 0 ∷ 0 ∷ []) ++ v₁
+    ++ (255 ∷ 240 ∷ 0 ∷ 0 ∷ []) ++ v₂
     -- paid 2^10, 2^11 / 2^10; incurred 2^12, 2^11 / 2^12
     ++ amount-in-8 4 ++ amount-in-8 8 ++ amount-in-8 4
     ++ amount-in-8 16 ++ amount-in-8 8 ++ amount-in-8 16
+
+abbrev pub fileF : ℕ → Bytes
+fileF e = fileOf e 2^46-in-8 2^46-in-8 2^46-in-8
+
+-- F without priors
+abbrev flatF : Bytes
+flatF = fileOf 1 0-in-8 0-in-8 0-in-8
 
 abbrev F : Figures
 F = figuresOf (fileF 1)
@@ -97,7 +117,7 @@ pub record JointTable : Type 0 where
       ++ ascii "psi  0  -1048576      65537\n"
   -- the widest of its numbers, and the narrowest
   pub widest-line : pageLine (Φ 15) (negsuc 67108863) 4563402752 ≡ ascii "phi 15 -67108864 4563402752\n"
-  pub narrowest-line : pageLine (Ψ 0) (pos 0) 65 ≡ ascii "psi  0         0         65\n"
+  pub narrowest-line : pageLine (Ψ 0) (pos 0) 64 ≡ ascii "psi  0         0         64\n"
   -- the call of F's page: 21, 24, 13; behind it stands what stood there
   pub F-page-closed : pageOfF empty 84 .answer ≡ refused 21 0
   pub F-page-failing : pageOfF (holds F (mean 2 0) 0) 83 .answer ≡ refused 24 0
@@ -106,6 +126,27 @@ pub record JointTable : Type 0 where
   pub F-page-behind : pageOfF (holds F (mean 0 0) 0) 86 .buffer ≡ pageOf 1 (mean 0 0) (F .own) ++ 165 ∷ 165 ∷ []
   pub F-board-page : boardPage (fileF 1) ≡ pageOf 1 (mean 0 0) (F .own)
   pub F-listing : listing (fileF 1) ≡ ascii "J 1\nsweeps 0\nphi 0 10485760\nphi 1 1048576\npsi 0 -1048576\n"
+  -- document 02, F without priors: it is accepted, and each prior weighs nothing
+  pub weight-of-0 : weight 0 ≡ 0
+  pub flat-accepted : accepted flatF ≡ true
+  pub flat-own : figuresOf flatF .own ≡ 131072 ∷ 65536 ∷ 65536 ∷ []
+  pub flat-matrix :
+      figuresOf flatF .matrix
+      ≡ (pos 131072 ∷ pos 0 ∷ pos 0 ∷ [])
+      ∷ (pos 0 ∷ pos 98304 ∷ negsuc 32767 ∷ [])
+      ∷ (pos 0 ∷ negsuc 32767 ∷ pos 98304 ∷ [])
+      ∷ []
+  -- 1,310,720T, 131,072T, −131,072T
+  pub flat-right-hand : figuresOf flatF .rightHand ≡ pos 1374389534720 ∷ pos 137438953472 ∷ negsuc 137438953471 ∷ []
+  -- the sweep starts at the prior means, and here they pass
+  pub flat-listing : listing flatF ≡ listing (fileF 1)
+  -- one part without a prior, first or last
+  pub flat-first : figuresOf (fileOf 1 0-in-8 2^46-in-8 2^46-in-8) .own ≡ 131072 ∷ 65537 ∷ 65537 ∷ []
+  pub flat-last : figuresOf (fileOf 1 2^46-in-8 2^46-in-8 0-in-8) .own ≡ 131073 ∷ 65537 ∷ 65536 ∷ []
+  -- all else below 2^18 is refused, and what is above 2^46, at the first such variance
+  pub prior-variance-1 : fileCheck (fileOf 1 1-in-8 2^46-in-8 2^46-in-8) ≡ refuses 7 38
+  pub prior-variance-below : fileCheck (fileOf 1 0-in-8 below-2^18-in-8 0-in-8) ≡ refuses 7 50
+  pub prior-variance-above : fileCheck (fileOf 1 0-in-8 0-in-8 above-2^46-in-8) ≡ refuses 7 62
 
 pub jointTable : JointTable
 unfolding leadingZeros sum total tabFrom logarithm bitsOf highestBit startFrom nextBit nextY weight bigEndian unsigned
@@ -143,4 +184,15 @@ jointTable = record {
   F-page-behind = refl;
   F-board-page = refl;
   F-listing = refl;
+  weight-of-0 = refl;
+  flat-accepted = refl;
+  flat-own = refl;
+  flat-matrix = refl;
+  flat-right-hand = refl;
+  flat-listing = refl;
+  flat-first = refl;
+  flat-last = refl;
+  prior-variance-1 = refl;
+  prior-variance-below = refl;
+  prior-variance-above = refl;
 }

@@ -1,7 +1,7 @@
 -- Specification, "Refusals": the checks of the input, one after another, each over its fields in their order. A check answers
 -- `clear`, or a number and the place of the field that is refused, which is 0 where none is to blame.
 use Prim.Native.Nat.{ℕ, zero, suc, _*_, _^_}
-use mathlib.Core.Bool.{Bool, true, false, _&&_}
+use mathlib.Core.Bool.{Bool, true, false, _&&_, _||_}
 use lib.ListN.{length}
 use lib.IntN.{ℤ, natAbs}
 use lib.Dec.{leb, eqb}
@@ -41,12 +41,13 @@ closenessLimit = 65536
 abbrev pub amountLimit : ℕ
 amountLimit = 2 ^ 40
 
--- a variance of the file: 2^18 to 2^40; of a prior: 2^18 to 2^46
+-- a variance of the file: 2^18 to 2^40
 abbrev pub goodVariance : ℕ → Bool
 goodVariance v = within (2 ^ 18) (2 ^ 40) v
 
+-- of a prior: 2^18 to 2^46, or 0, by which the part has no prior: its weight is 0
 abbrev pub goodPriorVariance : ℕ → Bool
-goodPriorVariance v = within (2 ^ 18) (2 ^ 46) v
+goodPriorVariance v = eqb v 0 || within (2 ^ 18) (2 ^ 46) v
 
 -- a prior mean or a mean's part: −2^26 to 2^26
 abbrev pub partLimit : ℕ

@@ -8,13 +8,13 @@ use lib.IntN.{ℤ, pos, natAbs, _*ℤ_}
 use Rattle.integers.specs.Size.{natAbs-*-≤}
 use Rattle.integers.specs.Total.{total-bound, sum-size}
 use Rattle.definitions.specs.Words.{part}
-use Rattle.definitions.specs.Layout.{Bytes, lastYear, closeness, parts, varianceOf, priorVariance, amount}
+use Rattle.definitions.specs.Layout.{Bytes, lastYear, closeness, parts, varianceOf, amount}
 use Rattle.definitions.specs.Observations.{Chain, chainOf}
 use Rattle.definitions.specs.Matrix.{own, matrix, ratiosOfLast, rightHand}
 use Rattle.definitions.specs.Matrix as D
 use Rattle.laws.specs.Accepted.{AcceptedFile}
 use Rattle.laws.specs.WeightLaws.{weight-at-most}
-use Rattle.laws.specs.FileBounds.{g-to}
+use Rattle.laws.specs.FileBounds.{prior-to, g-to}
 use Rattle.laws.specs.Diagonal.{matrix-symmetric}
 use Rattle.laws.specs.FileLimits.{logarithm-limit, y-limit, file-limits}
 use Rattle.laws.specs.PrecisionMatrix.{ratios-by-development}
@@ -74,7 +74,7 @@ module _ (f : Bytes) (h : AcceptedFile f) where
   columns-to p k below = rw (p .filled .front k below) (weight-at-most (varianceOf f k) (h .variances k below .from))
 
   priors-to : {priors : List ℕ} → PriorWeights f priors → (k : ℕ) → k < n → at priors k ≤ 2 ^ 28
-  priors-to s k below = rw (s .filled .front k below) (weight-at-most (priorVariance f k) (h .prior-variances k below .from))
+  priors-to s k below = rw (s .filled .front k below) (prior-to f h k below)
 
   pub file-owns : {columns priors : List ℕ} → ColumnWeights f columns → PriorWeights f priors → Owns columns priors J
   file-owns p s = record { few = h .years .to; columns-small = columns-to p; priors-small = priors-to s }

@@ -2,6 +2,7 @@
 -- its sum.
 use Prim.Native.Nat.{ℕ, _+_, _*_, _-_, _^_, _≤_, _<_}
 use mathlib.Core.Path.{_≡_, sym, ap, subst}
+use mathlib.Core.Logic.{inl, inr}
 use native.Mathlib.Nat.{le-trans, mul-le-mul-right}
 use native.Mathlib.Omega.{arith}
 use Rattle.integers.specs.Total.{total-term}
@@ -9,8 +10,8 @@ use Rattle.definitions.specs.Layout.{Bytes, lastYear, parts, psiIndex, priorVar
 use Rattle.definitions.specs.Weight.{weight}
 use Rattle.definitions.specs.Observations.{Chain, chainOf, σ², τ², ratioVariance}
 use Rattle.definitions.specs.Matrix.{Part, Φ, Ψ, partOf, ownOf, own}
-use Rattle.laws.specs.Accepted.{AcceptedFile, Within}
-use Rattle.laws.specs.WeightLaws.{weight-falls, weight-positive, weight-at-most, weight-of-two-at-most}
+use Rattle.laws.specs.Accepted.{AcceptedFile, PriorVariance, Within}
+use Rattle.laws.specs.WeightLaws.{weight-of-none, weight-falls, weight-positive, weight-at-most, weight-of-two-at-most}
 use Rattle.laws.specs.Ranks.{rankOf, partOf-phi, partOf-psi, by-part}
 use Rattle.laws.specs.Sizes.{rank}
 
@@ -96,16 +97,20 @@ module _ (f : Bytes) (h : AcceptedFile f) where
   q-to j below = weight-at-most (τ² f j) (τ²-within j below .from)
 
   pub prior-to : (k : ℕ) → k < parts J → weight (priorVariance f k) ≤ 2 ^ 28
-  prior-to k below = weight-at-most (priorVariance f k) (h .prior-variances k below .from)
+  prior-to k below = by-variance (h .prior-variances k below)
+    where
+      by-variance : {v : ℕ} → PriorVariance v → weight v ≤ 2 ^ 28
+      by-variance (inl none) = rw (none, weight-of-none) (omega arith)
+      by-variance (inr some) = weight-at-most _ (some .from)
 
   -- a part's own weight is at least the weight of one observation of its own, whatever its prior
-  column-p : (j : ℕ) → weight (σ² f j) ≤ ownOf c (Φ j)
+  pub column-p : (j : ℕ) → weight (σ² f j) ≤ ownOf c (Φ j)
   column-p j = omega (arith, mul-le-mul-right (weight (σ² f j)) (some (J - j)))
     where
       some : (n : ℕ) → 1 ≤ n + 1
       some n = omega arith
 
-  column-q : (j : ℕ) → j < J → weight (τ² f j) ≤ ownOf c (Ψ j)
+  pub column-q : (j : ℕ) → j < J → weight (τ² f j) ≤ ownOf c (Ψ j)
   column-q j below = omega (arith, mul-le-mul-right (weight (τ² f j)) (some below))
     where
       some : j < J → 1 ≤ J - j

@@ -22,6 +22,11 @@ weight-falls v w h k = by-cases (weight w) (weight-below w)
     by-cases zero e = omega arith
     by-cases (suc r) e = below-weight v (suc r) h (omega (arith, mul-le-mul-left (suc r) k, mul-le-mul-left r k))
 
+-- a variance of 0 stands for no prior
+pub weight-of-none : weight 0 ≡ 0
+unfolding weight
+weight-of-none = refl
+
 pub weight-positive : (v : ℕ) → 0 < v → v ≤ 2 ^ 47 → 1 ≤ weight v
 weight-positive v h k = below-weight v 1 h (omega arith)
 

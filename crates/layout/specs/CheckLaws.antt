@@ -1,7 +1,7 @@
 -- Laws of the definitions' checks: of one condition, of one check and then the next, and of the fields of a number.
 use Prim.Native.Nat.{ℕ, zero, suc, _+_, _-_, _≤_, _<_}
 use mathlib.Core.Path.{_≡_, refl, sym, ap, ap₂, _∙_, fun-ext}
-use mathlib.Core.Bool.{Bool, true, false, _&&_}
+use mathlib.Core.Bool.{Bool, true, false, _&&_, _||_}
 use native.Mathlib.Nat.{sub-zero, add-zero, add-suc, suc-add}
 use native.Mathlib.Numerals.{add-one}
 use native.Mathlib.Omega.{arith}
@@ -14,8 +14,9 @@ use Rattle.definitions.specs.Refusals as refusals
 use Rattle.definitions.specs.Refusals.{clear, refuses, unless, _then_, fields, goodPart, check1, check2, check3, check4, fileCheck, rowCheck, recordCheck}
 use Rattle.layout.specs.declared.checks.Check.{Check}
 use Rattle.layout.specs.declared.checks.Check.the-variants.{Clear, Refuses}
+use Rattle.layout.specs.declared.checks.Limits.{Limits}
 use Rattle.layout.specs.declared.checks.Run.{Run}
-use Rattle.layout.specs.Checks.{told, placeIn, unsignedRun, signedRun, lengthCheck, recordHead, Whole}
+use Rattle.layout.specs.Checks.{told, placeIn, allowed, unsignedRun, signedRun, lengthCheck, recordHead, Whole}
 
 -- ---- one condition
 
@@ -55,6 +56,28 @@ within-high low {high} {v} e h = rw (← e) (and-right (leb low v) (lt-leb v hig
 
 pub within-bounds : (low high v : ℕ) → within low high v ≡ true → (low ≤ v) × (v ≤ high)
 within-bounds low high v e = let b = and-true (leb low v) (leb v high) e in (leb-true low v (b .0), leb-true v high (b .1))
+
+-- ---- what a field's limits allow
+
+or-false : (b : Bool) → b || false ≡ b
+or-false true = refl
+or-false false = refl
+
+or-under : (a b c : Bool) → (b ≡ true → c ≡ true) → (a && b) || c ≡ c
+or-under true true c h = sym (h refl)
+or-under true false c h = refl
+or-under false b c h = refl
+
+module _ (limits : Limits) {v : ℕ} where
+  -- below the least 0 alone, and only where it is
+  pub allowed-below : v < limits .low → allowed limits v ≡ limits .zero && eqb v 0
+  allowed-below h = ap (λ t. (limits .zero && eqb v 0) || t) (within-low (limits .high) refl h) ∙ or-false _
+
+  -- from the least on all up to the most, be 0 allowed besides or not
+  pub allowed-from : limits .low ≤ v → allowed limits v ≡ leb v (limits .high)
+  allowed-from h =
+      ap (λ t. (limits .zero && eqb v 0) || (t && leb v (limits .high))) (le-leb (limits .low) v h)
+      ∙ or-under (limits .zero) (eqb v 0) _ (λ none. le-leb v (limits .high) (omega (arith, eqb-true v 0 none)))
 
 -- ---- one check, then the next
 
@@ -129,10 +152,10 @@ module _ {good : ℕ → Bool} {number : ℕ} {place : ℕ → ℕ} {n i : ℕ} 
 
 module _ (s : Bytes) (number : ℕ) (run : Run) {place : ℕ → ℕ} {n : ℕ}
     (places : (k : ℕ) → placeIn run k ≡ place k) (all : run .count ≡ n) where
-  pub unsigned-run : (low high : ℕ)
-      → unsignedRun s number run low high ≡ fields (λ k. within low high (unsigned 8 (place k) s)) number place 0 n
+  pub unsigned-run : (limits : Limits)
+      → unsignedRun s number run limits ≡ fields (λ k. allowed limits (unsigned 8 (place k) s)) number place 0 n
   unfolding unsignedRun
-  unsigned-run low high = ap₂ (λ p m. fields (λ k. within low high (unsigned 8 (p k) s)) number p 0 m) (fun-ext places) all
+  unsigned-run limits = ap₂ (λ p m. fields (λ k. allowed limits (unsigned 8 (p k) s)) number p 0 m) (fun-ext places) all
 
   pub signed-run : signedRun s number run ≡ fields (λ k. goodPart (signed (place k) s)) number place 0 n
   unfolding signedRun

@@ -1,7 +1,7 @@
 -- The code's answer to a check in the words of the definitions, and the checks that the code runs together.
 use Prim.Native.Nat.{ℕ, _+_, _*_, _≤_, _<_}
 use mathlib.Core.Path.{_≡_}
-use mathlib.Core.Bool.{_&&_}
+use mathlib.Core.Bool.{Bool, _&&_, _||_}
 use lib.ListN.{length}
 use lib.Dec.{leb, eqb}
 use Rattle.definitions.specs.Words.{within}
@@ -10,6 +10,7 @@ use Rattle.definitions.specs.Refusals as refusals
 use Rattle.definitions.specs.Refusals.{unless, _then_, fields, goodPart, check2, check3, check4, check5, check6, check7, check8, check9, check10}
 use Rattle.layout.specs.declared.checks.Check.{Check}
 use Rattle.layout.specs.declared.checks.Check.the-variants.{Clear, Refuses}
+use Rattle.layout.specs.declared.checks.Limits.{Limits}
 use Rattle.layout.specs.declared.checks.Run.{Run}
 
 -- number and place of every answer
@@ -34,8 +35,11 @@ placeIn run k = run .first + run .stride * k
 abbrev pub runInside : ℕ → Run → ℕ → Type 0
 runInside width run n = (k : ℕ) → k < run .count → placeIn run k + width ≤ n
 
-unfoldable pub unsignedRun : Bytes → ℕ → Run → ℕ → ℕ → refusals.Check
-unsignedRun s number run low high = fields (λ k. within low high (unsigned 8 (placeIn run k) s)) number (placeIn run) 0 (run .count)
+abbrev pub allowed : Limits → ℕ → Bool
+allowed limits v = (limits .zero && eqb v 0) || within (limits .low) (limits .high) v
+
+unfoldable pub unsignedRun : Bytes → ℕ → Run → Limits → refusals.Check
+unsignedRun s number run limits = fields (λ k. allowed limits (unsigned 8 (placeIn run k) s)) number (placeIn run) 0 (run .count)
 
 unfoldable pub signedRun : Bytes → ℕ → Run → refusals.Check
 signedRun s number run = fields (λ k. goodPart (signed (placeIn run k) s)) number (placeIn run) 0 (run .count)

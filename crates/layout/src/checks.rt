@@ -3,7 +3,7 @@ ghost use mathlib.Core.Path.{_≡_};
 ghost use Prim.Native.Nat.{_≤_};
 ghost use lib.ListN.{length};
 ghost use Rattle.definitions.specs.Refusals.{check2};
-ghost use Rattle.layout.specs.Checks.{told, lengthCheck, runInside, unsignedRun, signedRun};
+ghost use Rattle.layout.specs.Checks.{told, lengthCheck, runInside, allowed, unsignedRun, signedRun};
 use fields::ByteField;
 use fields::Field;
 use fields::SignedField;
@@ -28,10 +28,26 @@ struct Run {
     count: usize,
 }
 
-// The first 8-byte field of a run outside low..=high is refused.
-fn check_unsigned(s: &[u8], number: u64, run: Run, low: u64, high: u64) -> Check
+// What a field may be: from `low` to `high`, and where `zero` says so 0 as well.
+struct Limits {
+    low: u64,
+    high: u64,
+    zero: bool,
+}
+
+fn allows(limits: Limits, v: u64) -> bool
+    ensures { λ r. ⌜ r ≡ allowed limits v ⌝ }
+{
+    if v < limits.low {
+        return limits.zero && v == 0;
+    }
+    v <= limits.high
+}
+
+// The first 8-byte field of a run that its limits do not allow is refused.
+fn check_unsigned(s: &[u8], number: u64, run: Run, limits: Limits) -> Check
     requires { ⌜ runInside 8 run (length (now s)) ⌝ }
-    ensures { λ r. ⌜ told r ≡ unsignedRun (now (s .entry)) number run low high ⌝ }
+    ensures { λ r. ⌜ told r ≡ unsignedRun (now (s .entry)) number run limits ⌝ }
 {
     let first = run.first;
     let stride = run.stride;
@@ -42,10 +58,7 @@ fn check_unsigned(s: &[u8], number: u64, run: Run, low: u64, high: u64) -> Check
         let Field::Value(v) = unsigned_8(s, at) else {
             return Check::Refuses(number, at);
         };
-        if v < low {
-            return Check::Refuses(number, at);
-        }
-        if high < v {
+        if !allows(limits, v) {
             return Check::Refuses(number, at);
         }
         k += 1;

@@ -6,6 +6,7 @@ ghost use lib.ListN.{length};
 ghost use Rattle.definitions.specs.Refusals.{check1, check2, check3, check4, check5, check6, check7, check8, check9, check10, fileCheck};
 ghost use Rattle.layout.specs.Checks.{told, headerChecks, figureChecks, Whole};
 use super::Check;
+use super::Limits;
 use super::Run;
 use super::check_length;
 use super::check_signed;
@@ -19,6 +20,16 @@ use crate::places::parts_of;
 use fields::Field;
 use fields::unsigned_4;
 use fields::unsigned_8;
+
+// In squared ticks: 2^18, 2^40 and, of a prior, 2^46.
+const LEAST_VARIANCE: u64 = 262144;
+
+const MOST_VARIANCE: u64 = 1099511627776;
+
+const MOST_PRIOR_VARIANCE: u64 = 70368744177664;
+
+// 2^40.
+const MOST_AMOUNT: u64 = 1099511627776;
 
 // Length.
 fn check_1(s: &[u8]) -> Check
@@ -86,10 +97,15 @@ fn check_6(s: &[u8]) -> Check
         stride: 8,
         count: parts_of(last_year(s)),
     };
-    check_unsigned(s, 6, run, 262144, 1099511627776)
+    let limits = Limits {
+        low: LEAST_VARIANCE,
+        high: MOST_VARIANCE,
+        zero: false,
+    };
+    check_unsigned(s, 6, run, limits)
 }
 
-// Prior variances, each behind its mean.
+// Prior variances, each behind its mean; 0 stands for no prior.
 fn check_7(s: &[u8]) -> Check
     requires { ⌜ Whole (now s) ⌝ }
     ensures { λ r. ⌜ told r ≡ check7 (now (s .entry)) ⌝ }
@@ -100,7 +116,12 @@ fn check_7(s: &[u8]) -> Check
         stride: 12,
         count,
     };
-    check_unsigned(s, 7, run, 262144, 70368744177664)
+    let limits = Limits {
+        low: LEAST_VARIANCE,
+        high: MOST_PRIOR_VARIANCE,
+        zero: true,
+    };
+    check_unsigned(s, 7, run, limits)
 }
 
 // Prior means.
@@ -128,7 +149,12 @@ fn check_9(s: &[u8]) -> Check
         stride: 8,
         count: 2 * cells_of(last),
     };
-    check_unsigned(s, 9, run, 1, 1099511627776)
+    let limits = Limits {
+        low: 1,
+        high: MOST_AMOUNT,
+        zero: false,
+    };
+    check_unsigned(s, 9, run, limits)
 }
 
 // Both blocks end their first row alike.

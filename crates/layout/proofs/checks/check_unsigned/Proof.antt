@@ -1,37 +1,38 @@
 -- `layout::checks::check_unsigned` meets its contract. The loop's invariant: the fields from k on give what all of them give. The measure is how many
 -- are left. Assumes nothing.
 use Prim.Native.Nat.{ℕ, _+_, _*_, _-_, _≤_}
-use mathlib.Core.Path.{_≡_}
+use mathlib.Core.Path.{_≡_, sym, ap, _∙_}
 use mathlib.Core.Bool.{Bool}
 use native.Mathlib.Omega.{arith}
 use borrow.Author.Needs.{needs}
+use borrow.Author.Tests.{not-true, not-false}
 use lib.ListN.{length}
 use denote.Ref.{now}
-use Rattle.definitions.specs.Words.{within}
 use Rattle.definitions.specs.Layout.{Bytes, unsigned}
-use Rattle.layout.specs.Checks.{unsignedRun}
+use Rattle.layout.specs.declared.checks.Limits.{Limits}
+use Rattle.layout.specs.Checks.{allowed, unsignedRun}
 use Rattle.fields.specs.Fields.{field-read, field-outside}
-use Rattle.layout.specs.CheckLaws.{Left, left-start, left-none, left-next, left-bad, within-yes, within-low, within-high}
+use Rattle.layout.specs.CheckLaws.{Left, left-start, left-none, left-next, left-bad}
 use Rattle.layout.proofs.checks.check_unsigned.Statement.{statement}
 use Rattle.layout.proofs.checks.check_unsigned.Tie as tie
 
 abbrev place : ℕ → ℕ → ℕ → ℕ
 place first stride k = first + stride * k
 
-abbrev good : Bytes → ℕ → ℕ → ℕ → ℕ → ℕ → Bool
-good s low high first stride k = within low high (unsigned 8 (place first stride k) s)
+abbrev good : Bytes → Limits → ℕ → ℕ → ℕ → Bool
+good s limits first stride k = allowed limits (unsigned 8 (place first stride k) s)
 
 abbrev Inv-loop : tie.InvT-loop
-Inv-loop s number low high first stride count k₀ k = Left (good s low high first stride) number (place first stride) count k
+Inv-loop s number limits first stride count k₀ k = Left (good s limits first stride) number (place first stride) count k
 
 abbrev μ-loop : tie.MeasureT-loop
-μ-loop s number low high first stride count k₀ k = count - k
+μ-loop s number limits first stride count k₀ k = count - k
 
 loop-holds : tie.Need-loop-holds Inv-loop μ-loop
 loop-holds c =
     let a = c .before .args in
     let r = a .run in
-    left-start (good (now (a .s)) (a .low) (a .high) (r .first) (r .stride)) (a .number) (place (r .first) (r .stride)) (r .count)
+    left-start (good (now (a .s)) (a .limits) (r .first) (r .stride)) (a .number) (place (r .first) (r .stride)) (r .count)
 
 inside : (c : tie.In-loop Inv-loop μ-loop)
     → place (c .before .before .before .args .run .first) (c .before .before .before .args .run .stride) (c .before .loop .k) + 8
@@ -70,19 +71,22 @@ was-read c =
     let at = place (a .run .first) (a .run .stride) (l .before .loop .k) in
     field-read 8 at (now (a .s)) (c .before .before .before .unsigned-8 .ensures) (c .before .v .given .1)
 
+decided : (c : tie.After-allows Inv-loop μ-loop)
+    → let l = c .before .before .before .before .before in
+    let a = l .before .before .before .args in
+    good (now (a .s)) (a .limits) (a .run .first) (a .run .stride) (l .before .loop .k) ≡ c .allows .result
+decided c =
+    let a = c .before .before .before .before .before .before .before .before .args in
+    ap (allowed (a .limits)) (sym (was-read (c .before))) ∙ sym (c .allows .ensures)
+
+allows-requires : tie.Need-allows-requires Inv-loop μ-loop
+allows-requires c κs = tt
+
 returns-2 : tie.Need-returns-2 Inv-loop μ-loop
 unfolding unsignedRun
 returns-2 c =
-    let l = c .before .before .before .before .before in
-    let a = l .before .before .before .args in
-    left-bad (l .before .loop .inv) (l .loop-test .taken) (within-low (a .high) (was-read (c .before)) (c .if1 .taken))
-
-returns-3 : tie.Need-returns-3 Inv-loop μ-loop
-unfolding unsignedRun
-returns-3 c =
     let l = c .before .before .before .before .before .before in
-    let a = l .before .before .before .args in
-    left-bad (l .before .loop .inv) (l .loop-test .taken) (within-high (a .low) (was-read (c .before .before)) (c .if2 .taken))
+    left-bad (l .before .loop .inv) (l .loop-test .taken) (decided (c .before) ∙ not-true _ (c .if1 .taken))
 
 add-k : tie.Need-add-k Inv-loop μ-loop
 add-k c = omega arith
@@ -93,11 +97,11 @@ loop-less c = omega arith
 loop-again : tie.Need-loop-again Inv-loop μ-loop
 loop-again c =
     let l = c .before .before .before .before .before .before in
-    left-next (l .before .loop .inv) (l .loop-test .taken) (within-yes (was-read (c .before .before)) (c .before .if1 .left) (c .if2 .left))
+    left-next (l .before .loop .inv) (l .loop-test .taken) (decided (c .before) ∙ not-false _ (c .if1 .left))
 
-returns-4 : tie.Need-returns-4 Inv-loop μ-loop
+returns-3 : tie.Need-returns-3 Inv-loop μ-loop
 unfolding unsignedRun
-returns-4 c = left-none (c .before .loop .inv) (c .loop-test .left)
+returns-3 c = left-none (c .before .loop .inv) (c .loop-test .left)
 
 pub check-unsigned-spec : {M : Type 1} → statement M
 check-unsigned-spec =
@@ -112,9 +116,9 @@ check-unsigned-spec =
     enum-known-v
     enum-told
     returns
+    allows-requires
     returns-2
-    returns-3
     add-k
     loop-less
     loop-again
-    returns-4)
+    returns-3)

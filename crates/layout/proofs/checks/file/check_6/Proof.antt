@@ -1,7 +1,6 @@
 -- `layout::checks::file::check_6` meets its contract: the run's fields are the variances. Assumes nothing.
 use denote.Ref.{now}
 use mathlib.Core.Path.{refl, ap, _∙_}
-use Prim.Native.Nat.{_^_}
 use Rattle.definitions.specs.Layout.{parts}
 use Rattle.definitions.specs.Refusals.{check6}
 use Rattle.layout.specs.CheckLaws.{unsigned-run}
@@ -22,7 +21,7 @@ returns : tie.Need-returns
 unfolding check6
 returns c =
     let all = c .before .parts-of .ensures ∙ ap parts (c .before .before .last-year .ensures) in
-    c .check-unsigned .ensures ∙ unsigned-run (now (c .before .before .before .before .args .s)) 6 _ (λ k. refl) all (2 ^ 18) (2 ^ 40)
+    c .check-unsigned .ensures ∙ unsigned-run (now (c .before .before .before .before .args .s)) 6 _ (λ k. refl) all _
 
 pub check-6-spec : {M : Type 1} → statement M
 check-6-spec =

@@ -2,7 +2,7 @@
 -- Assumes nothing.
 use denote.Ref.{now}
 use mathlib.Core.Path.{_≡_, ap, _∙_}
-use Prim.Native.Nat.{ℕ, _+_, _*_, _^_}
+use Prim.Native.Nat.{ℕ, _+_, _*_}
 use native.Mathlib.Omega.{arith}
 use Rattle.definitions.specs.Layout.{lastYear, cells, amountAt}
 use Rattle.definitions.specs.Refusals.{check9}
@@ -25,8 +25,8 @@ amounts-at-requires c κs = search needs
 cells-of-requires : tie.Need-cells-of-requires
 cells-of-requires c κs = search needs
 
-mul-t6 : tie.Need-mul-t6
-mul-t6 c = omega (arith, all c, blocks-end (lastYear (now (c .before .before .before .before .args .s))), c .before .before .before .before .pre .whole)
+mul-t7 : tie.Need-mul-t7
+mul-t7 c = omega (arith, all c, blocks-end (lastYear (now (c .before .before .before .before .args .s))), c .before .before .before .before .pre .whole)
 
 check-unsigned-requires : tie.Need-check-unsigned-requires
 check-unsigned-requires c κs = λ k h.
@@ -38,7 +38,7 @@ unfolding check9
 returns c =
     let s = now (c .before .before .before .before .before .args .s) in
     let places : (k : ℕ) → c .before .before .amounts-at .result + 8 * k ≡ amountAt (lastYear s) k = λ k. omega arith in
-    c .check-unsigned .ensures ∙ unsigned-run s 9 _ places (ap (λ n. 2 * n) (all (c .before))) 1 (2 ^ 40)
+    c .check-unsigned .ensures ∙ unsigned-run s 9 _ places (ap (λ n. 2 * n) (all (c .before))) _
 
 pub check-9-spec : {M : Type 1} → statement M
 check-9-spec =
@@ -47,6 +47,6 @@ check-9-spec =
     last-year-requires
     amounts-at-requires
     cells-of-requires
-    mul-t6
+    mul-t7
     check-unsigned-requires
     returns)

@@ -1,0 +1,181 @@
+-- Document 02's files without a prior. Number 7 stands here twice, side by side: by the test that it has, and by one that asks a weight of
+-- every prior. What the second accepts is accepted, with the figures that it had; the two part at a prior variance of 0 and nowhere
+-- else. And a part without a prior rests on its own observations, of which it has at least one. Nothing builds on these laws.
+use Prim.Native.Nat.{ℕ, zero, suc, _+_, _*_, _-_, _^_, _≤_, _<_}
+use mathlib.Core.Path.{_≡_, refl, sym, ap, ap₂, _∙_}
+use mathlib.Core.Logic.{_≢_, _⊎_, inl, inr, _↔_}
+use mathlib.Core.Bool.{Bool, true}
+use native.Mathlib.Omega.{arith}
+use borrow.Author.Tests.{le-leb, ne-eqb}
+use lib.Dec.{T, leb}
+use lib.IntN.{pos, _+ℤ_, _-ℤ_, _*ℤ_, zero-*ℤ, +ℤ-idl}
+use Rattle.integers.specs.Sum.{sum}
+use Rattle.definitions.specs.Words.{within}
+use Rattle.definitions.specs.Layout.{Bytes, lastYear, parts, psiIndex, priorVariance, priorVarianceAt}
+use Rattle.definitions.specs.Weight.{weight}
+use Rattle.definitions.specs.Refusals.{Check, unless, _then_, fields, goodPriorVariance, fileCheck, rowCheck}
+use Rattle.definitions.specs.Refusals.{check1, check2, check3, check4, check5, check6, check7, check8, check9, check10}
+use Rattle.definitions.specs.Observations.{Chain, chainOf, σ², τ², paidStep, incurredStep}
+use Rattle.definitions.specs.Matrix.{Figures, ownOf, own, targetOf, rightHand, ratiosOfLast}
+use Rattle.definitions.specs.Machine.{State, empty, holds, Outcome, refused, answers, openUnless, openCall}
+use Rattle.definitions.specs.Machine.{check16, openCheck, isClear, accepted}
+use Rattle.laws.specs.Accepted.{Within, within-yes, prior-yes, then-clear, fields-clear, accepted-file}
+use Rattle.laws.specs.FileBounds.{p-from, q-from, column-p, column-q}
+use Rattle.laws.specs.Ranks.{partOf-phi, partOf-psi}
+use Rattle.laws.specs.WeightLaws.{weight-of-none}
+
+-- ---- number 7 by some test of a prior variance, the other numbers and the calls as they are
+
+module _ (good : ℕ → Bool) where
+  abbrev pub check7By : Bytes → Check
+  check7By f = fields (λ k. good (priorVariance f k)) 7 (priorVarianceAt (lastYear f)) 0 (parts (lastYear f))
+
+  abbrev pub fileCheckBy : Bytes → Check
+  fileCheckBy f =
+      check1 f then check2 f then check3 f then check4 f then check5 f then check6 f then check7By f
+      then check8 f then check9 f then check10 f
+
+  abbrev pub openCheckBy : Bytes → Check
+  openCheckBy f = fileCheckBy f then check16 f
+
+  abbrev pub rowCheckBy : Bytes → ℕ → ℕ → Check
+  rowCheckBy f channel year = fileCheckBy f then unless (leb channel 1) 14 0 then unless (leb year (lastYear f)) 15 0
+
+  abbrev pub openBy : (X : Type 0) (keep : Bytes → X) (figures : X → Figures) → State X → Bytes → Outcome X
+  openBy X keep figures empty f = openUnless X keep figures (openCheckBy f) f
+  openBy X keep figures (holds x μ total) f = answers X keep figures (holds x μ total) (refused 22 0)
+
+-- the test that number 7 has
+pub fileCheck-is : (f : Bytes) → fileCheckBy goodPriorVariance f ≡ fileCheck f
+unfolding fileCheck check7
+fileCheck-is f = refl
+
+pub prior-variance-is : (v : ℕ) → (goodPriorVariance v ≡ true) ↔ ((v ≡ 0) ⊎ ((262144 ≤ v) × (v ≤ 70368744177664)))
+prior-variance-is v = (λ e. told (prior-yes v (rw e tt)), taken)
+  where
+    told : (v ≡ 0) ⊎ Within (2 ^ 18) (2 ^ 46) v → (v ≡ 0) ⊎ ((262144 ≤ v) × (v ≤ 70368744177664))
+    told (inl none) = inl none
+    told (inr some) = inr (some .from, some .to)
+
+    taken : (v ≡ 0) ⊎ ((262144 ≤ v) × (v ≤ 70368744177664)) → goodPriorVariance v ≡ true
+    taken (inl none) = rw none refl
+    taken (inr some) = rw (ne-eqb v 0 (λ none. omega (arith, some .0)), le-leb (2 ^ 18) v (some .0), le-leb v (2 ^ 46) (some .1)) refl
+
+-- the test that asks a weight of every prior
+abbrev pub weighs : ℕ → Bool
+weighs v = within (2 ^ 18) (2 ^ 46) v
+
+same-test : (v : ℕ) → v ≢ 0 → weighs v ≡ goodPriorVariance v
+same-test v some = rw (ne-eqb v 0 some) refl
+
+some-variance : (v : ℕ) → T (weighs v) → v ≢ 0
+some-variance v t none = omega (arith, within-yes (2 ^ 18) (2 ^ 46) v t .from)
+
+fields-same : (good other : ℕ → Bool) (number : ℕ) (placeOf : ℕ → ℕ) (i n : ℕ)
+    → ((k : ℕ) → i ≤ k → k < i + n → good k ≡ other k) → fields good number placeOf i n ≡ fields other number placeOf i n
+unfolding fields
+fields-same good other number placeOf i zero same = refl
+fields-same good other number placeOf i (suc n) same =
+    ap₂ (λ t rest. unless t number (placeOf i) then rest) (same i (omega arith) (omega arith))
+    (fields-same good other number placeOf (suc i) n (λ k from to. same k (omega arith) (omega arith)))
+
+-- ---- what the one accepts, the other does
+
+-- where the first check lets an input through, both answer alike
+abbrev Kept : Check → Check → Type 0
+Kept a b = isClear a ≡ true → a ≡ b
+
+kept-first : {a b : Check} (c : Check) → Kept a b → Kept (a then c) (b then c)
+kept-first {a} c kept h = ap (λ x. x then c) (kept (then-clear {a = a} h .first))
+
+kept-second : (a : Check) {b c : Check} → Kept b c → Kept (a then b) (a then c)
+kept-second a kept h = ap (λ x. a then x) (kept (then-clear {a = a} h .second))
+
+module _ (f : Bytes) where
+  abbrev n : ℕ
+  n = parts (lastYear f)
+
+  check7-kept : Kept (check7By weighs f) (check7 f)
+  unfolding check7
+  check7-kept h =
+      fields-same _ _ 7 (priorVarianceAt (lastYear f)) 0 n
+      (λ k from to. same-test (priorVariance f k) (some-variance (priorVariance f k) (fields-clear _ 7 _ 0 n h k from to)))
+
+  file-kept : Kept (fileCheckBy weighs f) (fileCheck f)
+  unfolding fileCheck
+  file-kept =
+      kept-second (check1 f) (kept-second (check2 f) (kept-second (check3 f) (kept-second (check4 f) (kept-second (check5 f)
+      (kept-second (check6 f) (kept-first _ check7-kept))))))
+
+  module _ (was : isClear (openCheckBy weighs f) ≡ true) where
+    open-kept : openCheckBy weighs f ≡ openCheck f
+    open-kept = kept-first (check16 f) file-kept was
+
+    pub still-accepted : accepted f ≡ true
+    still-accepted = ap isClear (sym open-kept) ∙ was
+
+    -- open: the same figures are held, or whatever else is kept of the file, the same mean and the same total
+    pub opened-alike : (X : Type 0) (keep : Bytes → X) (figures : X → Figures) (st : State X)
+        → openBy weighs X keep figures st f ≡ openCall X keep figures st f
+    unfolding openCall
+    opened-alike X keep figures empty = ap (λ check. openUnless X keep figures check f) open-kept
+    opened-alike X keep figures (holds x μ total) = refl
+
+    -- row, shown or told: with the same answer for every channel and year
+    pub row-alike : (channel year : ℕ) → rowCheckBy weighs f channel year ≡ rowCheck f channel year
+    unfolding rowCheck
+    row-alike channel year =
+        let same : fileCheckBy weighs f ≡ fileCheck f = file-kept (then-clear {a = fileCheckBy weighs f} was .first) in
+        ap (λ check. check then unless (leb channel 1) 14 0 then unless (leb year (lastYear f)) 15 0) same
+
+  -- the two part at a variance of 0 alone: where there is none, every file is let through or refused alike, with number and place
+  pub same-but-for-0 : ((k : ℕ) → k < n → priorVariance f k ≢ 0) → fileCheckBy weighs f ≡ fileCheck f
+  unfolding fileCheck check7
+  same-but-for-0 some =
+      let same : check7By weighs f ≡ check7By goodPriorVariance f =
+      fields-same _ _ 7 (priorVarianceAt (lastYear f)) 0 n (λ k from to. same-test (priorVariance f k) (some k (omega arith))) in
+      ap (λ seventh. check1 f then check2 f then check3 f then check4 f then check5 f then check6 f then seventh
+      then check8 f then check9 f then check10 f) same
+
+-- ---- a part without a prior
+
+module _ (f : Bytes) where
+  abbrev J : ℕ
+  J = lastYear f
+
+  abbrev c : Chain
+  c = chainOf f
+
+  no-weight : {v : ℕ} → v ≡ 0 → weight v ≡ 0
+  no-weight none = ap weight none ∙ weight-of-none
+
+  -- its own weight is that of its observations
+  pub own-of-phi : (j : ℕ) → j ≤ J → priorVariance f j ≡ 0 → own c j ≡ (J - j + 1) * weight (σ² f j)
+  unfolding own
+  own-of-phi j below none = ap (ownOf c) (partOf-phi J j below) ∙ ap (λ w. w + (J - j + 1) * weight (σ² f j)) (no-weight none) ∙ omega arith
+
+  pub own-of-psi : (j : ℕ) → j < J → priorVariance f (psiIndex J j) ≡ 0 → own c (psiIndex J j) ≡ (J - j) * weight (τ² f j)
+  unfolding own
+  own-of-psi j below none = ap (ownOf c) (partOf-psi J j) ∙ ap (λ w. w + (J - j) * weight (τ² f j)) (no-weight none) ∙ omega arith
+
+  -- its prior mean is in no equation: the sweep starts there, and that is all
+  pub right-hand-of-phi : (j : ℕ) → j ≤ J → priorVariance f j ≡ 0
+      → rightHand c j ≡ pos (weight (σ² f j)) *ℤ sum (J - j + 1) (λ i. paidStep f i j) +ℤ ratiosOfLast c j
+  unfolding rightHand
+  right-hand-of-phi j below none = ap (targetOf c) (partOf-phi J j below) ∙ rw (no-weight none, zero-*ℤ, +ℤ-idl) refl
+
+  pub right-hand-of-psi : (j : ℕ) → j < J → priorVariance f (psiIndex J j) ≡ 0
+      → rightHand c (psiIndex J j) ≡ pos (weight (τ² f j)) *ℤ sum (J - j) (λ i. incurredStep f i j) -ℤ ratiosOfLast c (j + 1)
+  unfolding rightHand
+  right-hand-of-psi j below none = ap (targetOf c) (partOf-psi J j) ∙ rw (no-weight none, zero-*ℤ, +ℤ-idl) refl
+
+  -- every own weight, whatever the prior, is at least the weight of one observation, which is at least 1
+  pub observed-phi : accepted f ≡ true → (j : ℕ) → j ≤ J → (1 ≤ weight (σ² f j)) × (weight (σ² f j) ≤ own c j)
+  unfolding own
+  observed-phi yes-file j below =
+      let h = accepted-file f yes-file in (p-from f h j below, rw (partOf-phi J j below) (column-p f h j))
+
+  pub observed-psi : accepted f ≡ true → (j : ℕ) → j < J → (1 ≤ weight (τ² f j)) × (weight (τ² f j) ≤ own c (psiIndex J j))
+  unfolding own
+  observed-psi yes-file j below =
+      let h = accepted-file f yes-file in (q-from f h j below, rw (partOf-psi J j) (column-q f h j below))
