@@ -82,6 +82,28 @@ static void test_system_of_f(void) {
     }
 }
 
+/* F with prior variances of 0: each prior weighs nothing, and its mean is where the sweep starts. */
+static void test_without_priors(void) {
+    static const desk_system FLAT = {
+        .last = 1, .closeness = 1, .own = {131072, 65536, 65536},
+        .matrix = {{131072, 0, 0}, {0, 98304, -32768}, {0, -32768, 98304}},
+        .right_hand = {1310720 * T, 131072 * T, -131072 * T},
+    };
+    uint8_t file[F_LENGTH];
+    for (int far = 0; far <= 1; far++) {
+        file_f(file, 1);
+        for (size_t k = 0; k < 3; k++) put(file, 38 + 12 * k, 8, 0);
+        if (far) put(file, 34, 4, (uint64_t)-MOST_PART);
+        desk_session s = opened(file, sizeof file);
+        const desk_system shown = desk_figures(&s);
+        EXPECT(memcmp(&shown, &FLAT, sizeof FLAT) == 0);
+        EXPECT(s.mean[0] == (far ? -MOST_PART : 10 * T));
+        const desk_sweeping swept = desk_sweep(&s, DESK_MOST_SWEEPS);
+        EXPECT_DONE(swept.refusal);
+        EXPECT(swept.settled && swept.total == (uint64_t)far && s.mean[0] == 10 * T);
+    }
+}
+
 /* One field of F changed, and the refusal that this must give. */
 static const struct { size_t place, width; uint64_t value, number, refused_at; } SPOILED[] = {
     {0, 4, 117, 1, 0},
@@ -95,6 +117,7 @@ static const struct { size_t place, width; uint64_t value, number, refused_at; }
     {10, 8, (1 << 18) - 1, 6, 10},
     {26, 8, (UINT64_C(1) << 40) + 1, 6, 26},
     {38, 8, (1 << 18) - 1, 7, 38},
+    {50, 8, 1, 7, 50},
     {62, 8, (UINT64_C(1) << 46) + 1, 7, 62},
     {34, 4, (uint64_t)(-MOST_PART - 1), 8, 34},
     {58, 4, (uint64_t)(MOST_PART + 1), 8, 58},
@@ -129,7 +152,7 @@ static void test_files_refused(void) {
     expect_file_refused(file, F_LENGTH + 8, 4, 0);
     file_f(file, 1); /* 7 before 8, although its place is behind */
     put(file, 34, 4, (uint64_t)(MOST_PART + 1));
-    put(file, 62, 8, 0);
+    put(file, 62, 8, 1);
     expect_file_refused(file, F_LENGTH, 7, 62);
 }
 
@@ -333,6 +356,7 @@ int main(int count, char **arguments) {
     RUN(test_sizes)();
     RUN(test_figures_of_f)();
     RUN(test_system_of_f)();
+    RUN(test_without_priors)();
     RUN(test_files_refused)();
     RUN(test_limits_are_taken)();
     RUN(test_nothing_open)();
