@@ -22,11 +22,14 @@ TICKS_PER_UNIT = TICKS_PER_DOUBLING / _natural_log_of_two()  # of the natural lo
 
 
 def squared_ticks(deviation: Number) -> int:
-    """The variance in squared ticks, to the nearest, of a standard deviation in natural logarithms."""
+    """The variance in squared ticks, to the nearest, of a standard deviation in natural logarithms.
+
+    It is never 0, which as the variance of a prior would mean no prior: one that is too small is at least 1, and the desk refuses it.
+    """
     exact = _exact("deviation", deviation)
-    if exact < 0:
-        raise ValueError(f"deviation must be at least 0, not {shown(deviation)}")
-    return round((exact * TICKS_PER_UNIT) ** 2)
+    if exact <= 0:
+        raise ValueError(f"deviation must be above 0, not {shown(deviation)}")
+    return max(1, round((exact * TICKS_PER_UNIT) ** 2))
 
 
 def ticks(natural: Number) -> int:

@@ -234,7 +234,7 @@ class OfScales(Named):
             shown = repr(wrong)
             self.assert_told(ValueError, f"deviation must be a finite number, not {shown}", squared_ticks, wrong)
             self.assert_told(ValueError, f"natural must be a finite number, not {shown}", ticks, wrong)
-        self.assert_told(ValueError, "deviation must be at least 0, not -0.5", squared_ticks, -0.5)
+        self.assert_told(ValueError, "deviation must be above 0, not -0.5", squared_ticks, -0.5)
 
     def test_ticks_back(self) -> None:
         for wrong in NOT_WHOLE:

@@ -41,10 +41,12 @@ class SquaredTicks(unittest.TestCase):
         numbers: tuple[Number, ...] = (0.1393, "0.1393", "1393e-4", Decimal("0.1393"), Fraction(1393, 10_000))
         for deviation in numbers:
             self.assertEqual(squared_ticks(deviation), expected)
-        self.assertEqual(squared_ticks(0), 0)
+
+    def test_however_small_it_is_not_0(self) -> None:
+        self.assertEqual([squared_ticks(deviation) for deviation in ("1e-6", "4e-7", "1e-7", "1e-99")], [2, 1, 1, 1])
 
     def test_no_deviation(self) -> None:
-        wrong: tuple[Number, ...] = (-1, "-0.1", nan, inf, "much")
+        wrong: tuple[Number, ...] = (0, "0.0", -1, "-0.1", nan, inf, "much")
         for deviation in wrong:
             with self.assertRaisesRegex(ValueError, "^deviation must be "):
                 squared_ticks(deviation)

@@ -61,9 +61,15 @@ prior-variance-is v = (λ e. told (prior-yes v (rw e tt)), taken)
     taken (inl none) = rw none refl
     taken (inr some) = rw (ne-eqb v 0 (λ none. omega (arith, some .0)), le-leb (2 ^ 18) v (some .0), le-leb v (2 ^ 46) (some .1)) refl
 
--- the test that asks a weight of every prior
+-- the test that asks a weight of every prior: 2^18 to 2^46 and nothing else
 abbrev pub weighs : ℕ → Bool
 weighs v = within (2 ^ 18) (2 ^ 46) v
+
+pub weighs-is : (v : ℕ) → (weighs v ≡ true) ↔ ((262144 ≤ v) × (v ≤ 70368744177664))
+weighs-is v = (
+  λ e. let some = within-yes (2 ^ 18) (2 ^ 46) v (rw e tt) in (some .from, some .to),
+  λ some. rw (le-leb (2 ^ 18) v (some .0), le-leb v (2 ^ 46) (some .1)) refl,
+)
 
 same-test : (v : ℕ) → v ≢ 0 → weighs v ≡ goodPriorVariance v
 same-test v some = rw (ne-eqb v 0 some) refl

@@ -1,4 +1,4 @@
--- Laws of the definitions' checks: of one condition, of one check and then the next, and of the fields of a number.
+-- Laws of the definitions' checks: of one condition, of a field's limits, of one check and then the next, and of the fields of a number.
 use Prim.Native.Nat.{ℕ, zero, suc, _+_, _-_, _≤_, _<_}
 use mathlib.Core.Path.{_≡_, refl, sym, ap, ap₂, _∙_, fun-ext}
 use mathlib.Core.Bool.{Bool, true, false, _&&_, _||_}
@@ -69,11 +69,11 @@ or-under true false c h = refl
 or-under false b c h = refl
 
 module _ (limits : Limits) {v : ℕ} where
-  -- below the least 0 alone, and only where it is
+  -- below the least number 0 alone, where the limits have it
   pub allowed-below : v < limits .low → allowed limits v ≡ limits .zero && eqb v 0
   allowed-below h = ap (λ t. (limits .zero && eqb v 0) || t) (within-low (limits .high) refl h) ∙ or-false _
 
-  -- from the least on all up to the most, be 0 allowed besides or not
+  -- from there on whatever is at most the most, 0 or not
   pub allowed-from : limits .low ≤ v → allowed limits v ≡ leb v (limits .high)
   allowed-from h =
       ap (λ t. (limits .zero && eqb v 0) || (t && leb v (limits .high))) (le-leb (limits .low) v h)

@@ -35,6 +35,7 @@ placeIn run k = run .first + run .stride * k
 abbrev pub runInside : ℕ → Run → ℕ → Type 0
 runInside width run n = (k : ℕ) → k < run .count → placeIn run k + width ≤ n
 
+-- from the least to the most, and 0 where the limits have it
 abbrev pub allowed : Limits → ℕ → Bool
 allowed limits v = (limits .zero && eqb v 0) || within (limits .low) (limits .high) v
 
