@@ -61,8 +61,9 @@ PINNED = {
         "tells closes machine same-outcomes row-empty larger-logarithm loss-around divided-fits paid-sum-fits incurred-sum-fits",
     "laws/PinnedPage": "page-bytes name-on-page index-on-page ticks-on-page weight-on-page spaces-on-page never-shared",
     "laws/FlatPriors":
-        "check7By fileCheckBy openCheckBy rowCheckBy openBy fileCheck-is prior-variance-is weighs weighs-is still-accepted opened-alike "
-        "row-alike same-but-for-0 own-of-phi own-of-psi right-hand-of-phi right-hand-of-psi observed-phi observed-psi",
+        "check7By fileCheckBy openCheckBy rowCheckBy openBy fileCheck-is rowCheck-is openCall-is prior-variance-is weighs weighs-is "
+        "still-accepted opened-alike row-alike same-but-for-0 own-of-phi own-of-psi right-hand-of-phi right-hand-of-psi observed-phi "
+        "observed-psi",
     "row_starts/Pinned": "sixteen cells-counted none-counted",
     "holding/Pinned": "open-file reached-open",
     "opening/Pinned": "open-refused opened-holds",

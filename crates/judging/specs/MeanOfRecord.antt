@@ -12,7 +12,7 @@ use Rattle.definitions.specs.Layout.{Bytes, signed, partAt, parts}
 use Rattle.definitions.specs.Refusals.{partLimit, goodPart, clear, recordCheck}
 use Rattle.definitions.specs.Machine.{isClear}
 use Rattle.laws.specs.Tables.{tab-at, tab-cong}
-use Rattle.laws.specs.Accepted.{fields-clear}
+use Rattle.laws.specs.ClearChecks.{fields-clear}
 use Rattle.layout.specs.Checks.{recordHead}
 use Rattle.layout.specs.CheckLaws.{then-clear, record-checks}
 use Rattle.records.specs.Records.{part-padded}

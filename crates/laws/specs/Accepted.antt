@@ -1,9 +1,8 @@
 -- What an accepted file is known to hold, field by field.
-use Prim.Native.Nat.{ℕ, zero, suc, _+_, _*_, _^_, _≤_, _<_, zero-le}
-use mathlib.Core.Path.{_≡_, refl, subst}
+use Prim.Native.Nat.{ℕ, _*_, _^_, _≤_, _<_, zero-le}
+use mathlib.Core.Path.{_≡_}
 use mathlib.Core.Logic.{_⊎_, inl, inr}
-use mathlib.Core.Bool.{Bool, true, false, false≢true, _||_}
-use native.Mathlib.Nat.{eq-or-lt-of-le}
+use mathlib.Core.Bool.{Bool, true, false, _||_}
 use native.Mathlib.Omega.{arith}
 use lib.IntN.{natAbs}
 use lib.ListN.{length}
@@ -12,39 +11,11 @@ use lib.Dec.{T, leb, eqb, leb→le, eqb→eq}
 use Rattle.definitions.specs.Words.{within}
 use Rattle.definitions.specs.Layout.{Bytes, lastYear, closeness, parts, cells, varianceOf, priorMean, priorVariance}
 use Rattle.definitions.specs.Layout.{amount, paid, incurred, fileLength, paidAt, varianceAt, priorVarianceAt, priorMeanAt, amountAt}
-use Rattle.definitions.specs.Refusals.{Check, clear, refuses, unless, _then_, fields, fileCheck}
+use Rattle.definitions.specs.Refusals.{unless, fields, fileCheck}
 use Rattle.definitions.specs.Refusals.{check1, check2, check3, check4, check5, check6, check7, check8, check9, check10}
 use Rattle.definitions.specs.Refusals.{yearLimit, closenessLimit, amountLimit, partLimit, goodPriorVariance}
 use Rattle.definitions.specs.Machine.{isClear, accepted}
-
--- ---- clear checks
-
-pub record Both (a b : Check) : Type 0 where
-  pub first : isClear a ≡ true
-  pub second : isClear b ≡ true
-
-pub then-clear : {a b : Check} → isClear (a then b) ≡ true → Both a b
-then-clear {a = clear} h = record { first = refl; second = h }
-then-clear {a = refuses number place} h = absurd (false≢true h)
-
-pub unless-clear : (t : Bool) (number place : ℕ) → isClear (unless t number place) ≡ true → T t
-unless-clear true number place h = tt
-unless-clear false number place h = absurd (false≢true h)
-
-pub fields-clear : (good : ℕ → Bool) (number : ℕ) (placeOf : ℕ → ℕ) (i n : ℕ) → isClear (fields good number placeOf i n) ≡ true
-    → (k : ℕ) → i ≤ k → k < i + n → T (good k)
-unfolding fields
-fields-clear good number placeOf i zero h k from to = absurd (omega arith)
-fields-clear good number placeOf i (suc n) h k from to =
-    let both = then-clear {a = unless (good i) number (placeOf i)} h in
-    here-or-later (eq-or-lt-of-le from) (unless-clear (good i) number (placeOf i) (both .first))
-    (λ later. fields-clear good number placeOf (suc i) n (both .second) k later (omega arith))
-  where
-    here-or-later : (i ≡ k) ⊎ (i < k) → T (good i) → (i < k → T (good k)) → T (good k)
-    here-or-later (inl e) here later = subst (λ n. T (good n)) e here
-    here-or-later (inr l) here later = later l
-
--- ---- the file
+use Rattle.laws.specs.ClearChecks.{then-clear, unless-clear, fields-clear}
 
 pub record Within (lo hi v : ℕ) : Type 0 where
   pub from : lo ≤ v

@@ -1,8 +1,8 @@
 -- Document 02's files without a prior. Number 7 stands here twice, side by side: by the test that it has, and by one that asks a weight of
 -- every prior. What the second accepts is accepted, with the figures that it had; the two part at a prior variance of 0 and nowhere
 -- else. And a part without a prior rests on its own observations, of which it has at least one. Nothing builds on these laws.
-use Prim.Native.Nat.{ℕ, zero, suc, _+_, _*_, _-_, _^_, _≤_, _<_}
-use mathlib.Core.Path.{_≡_, refl, sym, ap, ap₂, _∙_}
+use Prim.Native.Nat.{ℕ, _+_, _*_, _-_, _^_, _≤_, _<_}
+use mathlib.Core.Path.{_≡_, refl, sym, ap, subst, _∙_}
 use mathlib.Core.Logic.{_≢_, _⊎_, inl, inr, _↔_}
 use mathlib.Core.Bool.{Bool, true}
 use native.Mathlib.Omega.{arith}
@@ -19,7 +19,8 @@ use Rattle.definitions.specs.Observations.{Chain, chainOf, σ², τ², paidStep
 use Rattle.definitions.specs.Matrix.{Figures, ownOf, own, targetOf, rightHand, ratiosOfLast}
 use Rattle.definitions.specs.Machine.{State, empty, holds, Outcome, refused, answers, openUnless, openCall}
 use Rattle.definitions.specs.Machine.{check16, openCheck, isClear, accepted}
-use Rattle.laws.specs.Accepted.{Within, within-yes, prior-yes, then-clear, fields-clear, accepted-file}
+use Rattle.laws.specs.ClearChecks.{Kept, then-clear, kept-first, kept-second, fields-clear, fields-same}
+use Rattle.laws.specs.Accepted.{Within, within-yes, prior-yes, accepted-file}
 use Rattle.laws.specs.FileBounds.{p-from, q-from, column-p, column-q}
 use Rattle.laws.specs.Ranks.{partOf-phi, partOf-psi}
 use Rattle.laws.specs.WeightLaws.{weight-of-none}
@@ -45,10 +46,20 @@ module _ (good : ℕ → Bool) where
   openBy X keep figures empty f = openUnless X keep figures (openCheckBy f) f
   openBy X keep figures (holds x μ total) f = answers X keep figures (holds x μ total) (refused 22 0)
 
--- the test that number 7 has
+-- by the test that it has they are the checks and the call of the definitions
 pub fileCheck-is : (f : Bytes) → fileCheckBy goodPriorVariance f ≡ fileCheck f
 unfolding fileCheck check7
 fileCheck-is f = refl
+
+pub rowCheck-is : (f : Bytes) (channel year : ℕ) → rowCheckBy goodPriorVariance f channel year ≡ rowCheck f channel year
+unfolding rowCheck fileCheck check7
+rowCheck-is f channel year = refl
+
+pub openCall-is : (X : Type 0) (keep : Bytes → X) (figures : X → Figures) (st : State X) (f : Bytes)
+    → openBy goodPriorVariance X keep figures st f ≡ openCall X keep figures st f
+unfolding openCall fileCheck check7
+openCall-is X keep figures empty f = refl
+openCall-is X keep figures (holds x μ total) f = refl
 
 pub prior-variance-is : (v : ℕ) → (goodPriorVariance v ≡ true) ↔ ((v ≡ 0) ⊎ ((262144 ≤ v) × (v ≤ 70368744177664)))
 prior-variance-is v = (λ e. told (prior-yes v (rw e tt)), taken)
@@ -67,7 +78,7 @@ weighs v = within (2 ^ 18) (2 ^ 46) v
 
 pub weighs-is : (v : ℕ) → (weighs v ≡ true) ↔ ((262144 ≤ v) × (v ≤ 70368744177664))
 weighs-is v = (
-  λ e. let some = within-yes (2 ^ 18) (2 ^ 46) v (rw e tt) in (some .from, some .to),
+  λ e. let some = within-yes (2 ^ 18) (2 ^ 46) v (subst T (sym e) tt) in (some .from, some .to),
   λ some. rw (le-leb (2 ^ 18) v (some .0), le-leb v (2 ^ 46) (some .1)) refl,
 )
 
@@ -77,25 +88,7 @@ same-test v some = rw (ne-eqb v 0 some) refl
 some-variance : (v : ℕ) → T (weighs v) → v ≢ 0
 some-variance v t none = omega (arith, within-yes (2 ^ 18) (2 ^ 46) v t .from)
 
-fields-same : (good other : ℕ → Bool) (number : ℕ) (placeOf : ℕ → ℕ) (i n : ℕ)
-    → ((k : ℕ) → i ≤ k → k < i + n → good k ≡ other k) → fields good number placeOf i n ≡ fields other number placeOf i n
-unfolding fields
-fields-same good other number placeOf i zero same = refl
-fields-same good other number placeOf i (suc n) same =
-    ap₂ (λ t rest. unless t number (placeOf i) then rest) (same i (omega arith) (omega arith))
-    (fields-same good other number placeOf (suc i) n (λ k from to. same k (omega arith) (omega arith)))
-
 -- ---- what the one accepts, the other does
-
--- where the first check lets an input through, both answer alike
-abbrev Kept : Check → Check → Type 0
-Kept a b = isClear a ≡ true → a ≡ b
-
-kept-first : {a b : Check} (c : Check) → Kept a b → Kept (a then c) (b then c)
-kept-first {a} c kept h = ap (λ x. x then c) (kept (then-clear {a = a} h .first))
-
-kept-second : (a : Check) {b c : Check} → Kept b c → Kept (a then b) (a then c)
-kept-second a kept h = ap (λ x. a then x) (kept (then-clear {a = a} h .second))
 
 module _ (f : Bytes) where
   abbrev n : ℕ

@@ -6,6 +6,7 @@
 --   LogarithmOrder    the larger the amount, the larger its logarithm
 --   WeightLaws        the weight is positive, falls as the variance grows, and where it lies
 --   Cells             the start of each row, by document 02's formula and table; rows and cells are inside their block
+--   ClearChecks       what a clear check says of its parts; two checks side by side
 --   Accepted          what an accepted file holds, field by field
 --   Ranks             parts by index; the matrix by ranks and signs
 --   Quadratic         a loss of quadratics and combinations: matrix, right-hand side, residue, expansion around a mean
@@ -40,6 +41,7 @@ pub mod LogarithmBound
 pub mod LogarithmOrder
 pub mod WeightLaws
 pub mod Cells
+pub mod ClearChecks
 pub mod Accepted
 pub mod Ranks
 pub mod Quadratic

@@ -11,7 +11,8 @@ use Rattle.definitions.specs.Layout.{Bytes, lastYear, cells, fileLength, rowAt,
 use Rattle.definitions.specs.Refusals.{Check, clear, refuses, unless, fileCheck, rowCheck}
 use Rattle.definitions.specs.Machine.{isClear, partUnless, rowPart}
 use Rattle.laws.specs.Cells.{row-in-block, blocks-end}
-use Rattle.laws.specs.Accepted.{then-clear, unless-clear, AcceptedFile, file-clear}
+use Rattle.laws.specs.ClearChecks.{then-clear, unless-clear}
+use Rattle.laws.specs.Accepted.{AcceptedFile, file-clear}
 
 -- a row is inside its block, and the block is the first or the second
 row-ends : (J channel year : ℕ) → channel ≤ 1 → year ≤ J → rowAt J channel year + rowLength J year ≤ fileLength J

@@ -1,0 +1,56 @@
+-- What a check that is clear says of the checks and the fields that it is made of, and two checks side by side: of the one is kept
+-- whatever the other lets through.
+use Prim.Native.Nat.{ℕ, zero, suc, _+_, _≤_, _<_}
+use mathlib.Core.Path.{_≡_, refl, ap, ap₂, subst}
+use mathlib.Core.Logic.{_⊎_, inl, inr}
+use mathlib.Core.Bool.{Bool, true, false, false≢true}
+use native.Mathlib.Nat.{eq-or-lt-of-le}
+use native.Mathlib.Omega.{arith}
+use lib.Dec.{T}
+use Rattle.definitions.specs.Refusals.{Check, clear, refuses, unless, _then_, fields}
+use Rattle.definitions.specs.Machine.{isClear}
+
+pub record Both (a b : Check) : Type 0 where
+  pub first : isClear a ≡ true
+  pub second : isClear b ≡ true
+
+pub then-clear : {a b : Check} → isClear (a then b) ≡ true → Both a b
+then-clear {a = clear} h = record { first = refl; second = h }
+then-clear {a = refuses number place} h = absurd (false≢true h)
+
+pub unless-clear : (t : Bool) (number place : ℕ) → isClear (unless t number place) ≡ true → T t
+unless-clear true number place h = tt
+unless-clear false number place h = absurd (false≢true h)
+
+pub fields-clear : (good : ℕ → Bool) (number : ℕ) (placeOf : ℕ → ℕ) (i n : ℕ) → isClear (fields good number placeOf i n) ≡ true
+    → (k : ℕ) → i ≤ k → k < i + n → T (good k)
+unfolding fields
+fields-clear good number placeOf i zero h k from to = absurd (omega arith)
+fields-clear good number placeOf i (suc n) h k from to =
+    let both = then-clear {a = unless (good i) number (placeOf i)} h in
+    here-or-later (eq-or-lt-of-le from) (unless-clear (good i) number (placeOf i) (both .first))
+    (λ later. fields-clear good number placeOf (suc i) n (both .second) k later (omega arith))
+  where
+    here-or-later : (i ≡ k) ⊎ (i < k) → T (good i) → (i < k → T (good k)) → T (good k)
+    here-or-later (inl e) here later = subst (λ n. T (good n)) e here
+    here-or-later (inr l) here later = later l
+
+-- ---- side by side
+
+pub fields-same : (good other : ℕ → Bool) (number : ℕ) (placeOf : ℕ → ℕ) (i n : ℕ)
+    → ((k : ℕ) → i ≤ k → k < i + n → good k ≡ other k) → fields good number placeOf i n ≡ fields other number placeOf i n
+unfolding fields
+fields-same good other number placeOf i zero same = refl
+fields-same good other number placeOf i (suc n) same =
+    ap₂ (λ t rest. unless t number (placeOf i) then rest) (same i (omega arith) (omega arith))
+    (fields-same good other number placeOf (suc i) n (λ k from to. same k (omega arith) (omega arith)))
+
+-- where the first check lets an input through, both answer alike
+abbrev pub Kept : Check → Check → Type 0
+Kept a b = isClear a ≡ true → a ≡ b
+
+pub kept-first : {a b : Check} (c : Check) → Kept a b → Kept (a then c) (b then c)
+kept-first {a} c kept h = ap (λ x. x then c) (kept (then-clear {a = a} h .first))
+
+pub kept-second : (a : Check) {b c : Check} → Kept b c → Kept (a then b) (a then c)
+kept-second a kept h = ap (λ x. a then x) (kept (then-clear {a = a} h .second))
