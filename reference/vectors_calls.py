@@ -27,7 +27,7 @@ LARGEST_NUMBER = (1 << 32) - 1
 
 
 def script_of_scenes(seed: int, drawn_sessions: int = 60) -> bytes:
-    rng = Random(f"calls {seed}")
+    rng, flat = Random(f"calls {seed}"), Random(f"calls without priors {seed}")
     scenes: list[Iterable[bytes]] = [
         figures_of_document(),
         state_refusals(),
@@ -50,8 +50,8 @@ def script_of_scenes(seed: int, drawn_sessions: int = 60) -> bytes:
         *(drawn_session(rng) for _ in range(drawn_sessions)),
         flat_priors_beside_others(),
         *(flat_priors(file) for file in vectors_flat_priors.accepted_files().values()),
-        *(settle_and_read(rng, samples.drawn_flat_file(rng, last)) for last in (1, 2, 3, 5, 9, LARGEST_YEAR)),
-        *(drawn_session(rng, samples.drawn_flat_file) for _ in range(drawn_sessions // 4)),
+        *(settle_and_read(flat, samples.drawn_flat_file(flat, last)) for last in (1, 2, 3, 5, 9, LARGEST_YEAR)),
+        *(drawn_session(flat, samples.drawn_flat_file) for _ in range(drawn_sessions // 4)),
     ]
     return b"".join(call for scene in scenes for call in scene)
 
