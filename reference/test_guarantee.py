@@ -117,16 +117,18 @@ class Guarantee(unittest.TestCase):
             self.assertLess(9 * least, loss.loss_of(squares, u, 3))
 
     def test_strictly_least_where_the_loss_is_not_zero(self) -> None:
-        """The observations of phi 0 do not agree, but their mean is a whole number."""
-        file = replace(
+        """The observations of phi 0, at 10 and 9 doublings, and its prior at 11 do not agree, but their mean is a whole number."""
+        self.assert_strictly_least(replace(
             samples.file_f(),
             prior_means=(11 * T, T, -T),
             prior_variances=(1 << 30, 1 << 46, 1 << 46),
             paid=((1 << 10, 1 << 11), (1 << 9,)),
             incurred=((1 << 12, 1 << 11), (1 << 11,)),
-        )
-        figures, squares = chain.figures_of(file), loss.squares_of(file)
-        mean = (10 * T, T, -T)  # phi 0 is the mean of 10, 9 and the prior's 11 doublings
+        ))
+
+    def assert_strictly_least(self, file: File) -> None:
+        """Of a file in which (10T, T, -T) has zero residue and is off by a doubling twice."""
+        figures, squares, mean = chain.figures_of(file), loss.squares_of(file), (10 * T, T, -T)
         self.assertEqual(chain.residues_of(figures, mean), [0, 0, 0])
         least = loss.loss_of(squares, mean)
         self.assertEqual(least, 2 * 65_536 * T * T)
@@ -141,6 +143,11 @@ class GuaranteeWithoutPriors(Guarantee):
     """All of it for files whose parts lack a prior, some or all: an own weight is never less than an observation's."""
 
     draw = staticmethod(samples.drawn_flat_file)
+
+    def test_strictly_least_where_the_loss_is_not_zero(self) -> None:
+        """The two observations of phi 0, at 11 and 9 doublings, do not agree; there is no prior, and their mean is a whole number."""
+        f = samples.without_priors(samples.file_f())
+        self.assert_strictly_least(replace(f, paid=((1 << 11, 1 << 12), (1 << 9,)), incurred=((1 << 13, 1 << 12), (1 << 11,))))
 
     def test_own_weights(self) -> None:
         rng = Random(26)

@@ -172,6 +172,8 @@ class CommandLine(unittest.TestCase):
             self.assertEqual(self.run_command("sample", sample, "--closeness", "65536").returncode, 0)
             self.assertEqual(len(Path(sample).read_bytes()), 1_270)
             done = self.run_command("list", sample)
+            self.assertEqual(self.run_command("sample", sample).returncode, 0)
+            self.assertEqual(Path(sample).read_bytes(), (REFERENCE.parent / "samples" / "tables-10-11.file").read_bytes())
         self.assertEqual((done.returncode, done.stdout.split(b"\n")[0]), (0, b"J 9"))
         self.assertEqual(self.run_command("list", "-", given=F).stdout, listing(F).encode())
         self.assertEqual(self.run_command("page", "-", given=F).stdout, PAGE_OF_F)

@@ -35,8 +35,9 @@ class Made(unittest.TestCase):
     def test_listings(self) -> None:
         self.assertEqual(self.listing("f")[1], "sweeps 0")
         self.assertEqual(self.listing("spent-at-a-limit"), ["spent 4096"])
-        self.assertEqual(self.listing("at-rest"), ["spent 4096"])
         self.assertEqual(self.listing("tables-256")[0], "J 9")
+        self.assertEqual(self.listing("tables-1")[0], "J 9")
+        self.assertEqual(self.listing("tables-priors-1"), ["spent 4096"])  # at rest without passing
         for last in range(1, 16):
             self.assertIn(self.listing(f"years-{last:02}")[0], (f"J {last}", "spent 4096"))
 
@@ -80,20 +81,6 @@ class Made(unittest.TestCase):
         self.assertEqual(self.listing("refused-10-short"), ["refused 10 at 78"])
         self.assertEqual(self.listing("refused-10-long"), ["refused 10 at 750"])
 
-    def test_flat_priors(self) -> None:
-        """Taken where they should be; other variances below 2^18 and means beyond their limits refused, at lowest and highest places."""
-        self.assertEqual(self.listing("flat-all-01"), self.listing("f"))
-        self.assertEqual([self.listing(f"flat-{where}-15")[0] for where in ("all", "first", "last")], ["J 15"] * 3)
-        self.assertEqual(self.listing("flat-spent"), ["spent 4096"])
-        for last, mean_at in ((1, 34), (15, 618)):
-            for variance in ("1", "below-the-least", "above-the-most"):
-                self.assertEqual(self.listing(f"prior-variance-{variance}-{last:02}"), [f"refused 7 at {mean_at + 4}"])
-            for mean in ("below-the-lowest", "above-the-highest"):
-                self.assertEqual(self.listing(f"flat-mean-{mean}-{last:02}"), [f"refused 8 at {mean_at}"])
-            for taken in ("prior-variance-least", "prior-variance-most", "flat-mean-lowest", "flat-mean-highest"):
-                self.assertEqual(self.listing(f"{taken}-{last:02}")[0], f"J {last}")
-        self.assertEqual(self.listing("flat-mean-and-variance-1"), ["refused 7 at 62"])
-
     def test_lengths(self) -> None:
         for name, length in (("0", 0), ("2806", 2_806), ("2807", 2_807), ("100000", 100_000)):
             self.assertEqual(len(self.made[f"listing/length-{name}"].given), length)
@@ -102,7 +89,7 @@ class Made(unittest.TestCase):
             self.assertEqual(self.listing(f"length-{name}"), ["refused 1 at 0"])
 
     def test_sample(self) -> None:
-        """What `python3 reference sample` writes is the vector that is kept as the sample."""
+        """The vector of Tables 10 and 11 is kept as the sample."""
         sample = self.made["listing/tables-256"]
         self.assertEqual(sample.given, build_file(paper.tables_file(256)))
         self.assertEqual(self.made["board_page/tables-256"].given, sample.given)

@@ -46,8 +46,12 @@ def _figures() -> dict[str, bytes]:
 
 
 def _tables() -> dict[str, bytes]:
-    files = map(paper.tables_file, TABLES_CLOSENESSES)
-    return {f"tables-{file.closeness}": build_file(file) for file in files}
+    """The paper's example, and the same with priors of weight 1."""
+    inputs = {}
+    for closeness in TABLES_CLOSENESSES:
+        inputs[f"tables-{closeness}"] = build_file(paper.tables_file(closeness))
+        inputs[f"tables-priors-{closeness}"] = build_file(paper.tables_file(closeness, prior_variance=1 << 46))
+    return inputs
 
 
 def _refusals_at_their_places() -> dict[str, bytes]:
@@ -109,5 +113,4 @@ def _hard_to_settle() -> dict[str, bytes]:
         "many-sweeps-256": build_file(samples.many_sweeps(closeness=256)),
         "half-above": build_file(samples.half_tick(1)),
         "half-below": build_file(samples.half_tick(-1)),
-        "at-rest": build_file(paper.tables_file(1, prior_variance=1 << 46)),
     }

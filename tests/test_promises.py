@@ -60,10 +60,8 @@ PINNED = {
         "logarithm-within-two-ticks Machine opens judges judges-alone sweeps reads reads-alone pages pages-alone shows "
         "tells closes machine same-outcomes row-empty larger-logarithm loss-around divided-fits paid-sum-fits incurred-sum-fits",
     "laws/PinnedPage": "page-bytes name-on-page index-on-page ticks-on-page weight-on-page spaces-on-page never-shared",
-    "laws/FlatPriors":
-        "check7By fileCheckBy openCheckBy rowCheckBy openBy fileCheck-is rowCheck-is openCall-is prior-variance-is weighs weighs-is "
-        "still-accepted opened-alike row-alike same-but-for-0 own-of-phi own-of-psi right-hand-of-phi right-hand-of-psi observed-phi "
-        "observed-psi",
+    "laws/PinnedPriors":
+        "prior-variance-taken accepted-still opened-still row-still same-with-priors phi-alone psi-alone phi-owned psi-owned",
     "row_starts/Pinned": "sixteen cells-counted none-counted",
     "holding/Pinned": "open-file reached-open",
     "opening/Pinned": "open-refused opened-holds",
@@ -94,8 +92,8 @@ STARRED = {
 
 # F without priors, and the prior variances that are refused beside them.
 WITHOUT_PRIORS = {
-    "weight-of-0", "flat-accepted", "flat-own", "flat-matrix", "flat-right-hand", "flat-listing", "flat-first", "flat-last",
-    "prior-variance-1", "prior-variance-below", "prior-variance-above",
+    "weight-of-0", "flat-accepted", "flat-own", "flat-matrix", "flat-right-hand", "flat-listing", "flat-listing-from-2^26",
+    "flat-mean-above", "flat-first", "flat-last", "prior-variance-1", "prior-variance-below", "prior-variance-above",
 }
 
 # Those of document 02's page and of its call, and the listing beside them.

@@ -169,6 +169,8 @@ class OfFiles(Named):
         self.assert_wrong(TypeError, f"phi_priors of development year 1 {pair} 5", phi_priors=[(0, 1), 5])
         self.assert_wrong(TypeError, f"psi_priors of development year 0 {pair} '12'", psi_priors=["12"])
         self.assert_wrong(ValueError, f"phi_priors of development year 0 {pair} (1, 2, 3)", phi_priors=[(1, 2, 3), (1, 2)])
+        self.assert_wrong(TypeError, f"phi_priors of development year 0 {pair} 0", phi_priors=[0, (0, 1)])  # None alone is none
+        self.assert_wrong(ValueError, f"psi_priors of development year 0 {pair} ()", psi_priors=[()])
 
     def test_counts(self) -> None:
         self.assert_wrong(ValueError, "paid must have accident years, and has none", paid=())

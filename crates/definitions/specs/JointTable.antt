@@ -15,12 +15,13 @@ use Rattle.definitions.specs.Layout.{Bytes, bigEndian, unsigned, twosCom
 use Rattle.definitions.specs.Refusals.{refuses, fields, check1, check2, check3, check4, check5, check6, check7, check8, check9, check10, fileCheck}
 use Rattle.definitions.specs.Observations.{Chain, chainOf, ratioVariance, paidStep, incurredStep, lastRatio}
 use Rattle.definitions.specs.Matrix.{Φ, Ψ, Figures, figuresOf, partOf, own, matrix, rightHand, residue, passed, fails, judgement, judgeFrom}
+use Rattle.definitions.specs.Sweep.{sweeps, sweepFrom, step, bringBack, change}
 use Rattle.definitions.specs.Text.{ascii, decimalFrom, signedDecimal, aligned, nameOf, indexOf, lines}
 use Rattle.definitions.specs.Page.{pageLine, pageOf}
 use Rattle.definitions.specs.Machine.{accepted, check16, refused, written, State, empty, holds, Outcome, openCall, sweepCall, writeCall, pageCall}
 use Rattle.definitions.specs.Programs.{partLine, sweepText, openText, programText, listed, listing, boardPage}
 
--- ---- File F, byte by byte, with closeness e: J = 1, σ² and τ² all 2^30, prior means 10T, T, −T. The prior variances of F are 2^46.
+-- ---- File F, byte by byte, with closeness e: J = 1, σ² and τ² all 2^30, prior variances 2^46, prior means 10T, T, −T
 
 abbrev 2^30-in-8 : Bytes
 2^30-in-8 = 0 ∷ 0 ∷ 0 ∷ 0 ∷ 64 ∷ 0 ∷ 0 ∷ 0 ∷ []
@@ -45,23 +46,31 @@ above-2^46-in-8 = 0 ∷ 0 ∷ 64 ∷ 0 ∷ 0 ∷ 0 ∷ 0 ∷ 1 ∷ []
 abbrev amount-in-8 : ℕ → Bytes
 amount-in-8 b = 0 ∷ 0 ∷ 0 ∷ 0 ∷ 0 ∷ 0 ∷ b ∷ 0 ∷ []
 
-abbrev fileOf : ℕ → (v₀ v₁ v₂ : Bytes) → Bytes
-fileOf e v₀ v₁ v₂ =
+-- the first prior mean and the prior variances are left open
+abbrev fileOf : ℕ → (m₀ v₀ v₁ v₂ : Bytes) → Bytes
+fileOf e m₀ v₀ v₁ v₂ =
     (0 ∷ 0 ∷ 0 ∷ 118 ∷ 1 ∷ 1 ∷ 0 ∷ 0 ∷ 0 ∷ e ∷ [])
     ++ 2^30-in-8 ++ 2^30-in-8 ++ 2^30-in-8
-    ++ (0 ∷ 160 ∷ 0 ∷ 0 ∷ []) ++ v₀
+    ++ m₀ ++ v₀
     ++ (0 ∷ 16 ∷ 0 ∷ 0 ∷ []) ++ v₁
     ++ (255 ∷ 240 ∷ 0 ∷ 0 ∷ []) ++ v₂
     -- paid 2^10, 2^11 / 2^10; incurred 2^12, 2^11 / 2^12
     ++ amount-in-8 4 ++ amount-in-8 8 ++ amount-in-8 4
     ++ amount-in-8 16 ++ amount-in-8 8 ++ amount-in-8 16
 
+abbrev 10T-in-4 : Bytes
+10T-in-4 = 0 ∷ 160 ∷ 0 ∷ 0 ∷ []
+
 abbrev pub fileF : ℕ → Bytes
-fileF e = fileOf e 2^46-in-8 2^46-in-8 2^46-in-8
+fileF e = fileOf e 10T-in-4 2^46-in-8 2^46-in-8 2^46-in-8
 
 -- F without priors
 abbrev flatF : Bytes
-flatF = fileOf 1 0-in-8 0-in-8 0-in-8
+flatF = fileOf 1 10T-in-4 0-in-8 0-in-8 0-in-8
+
+-- the same with the first prior mean at 2^26 + b
+abbrev flatFrom : ℕ → Bytes
+flatFrom b = fileOf 1 (4 ∷ 0 ∷ 0 ∷ b ∷ []) 0-in-8 0-in-8 0-in-8
 
 abbrev F : Figures
 F = figuresOf (fileF 1)
@@ -138,22 +147,25 @@ pub record JointTable : Type 0 where
       ∷ []
   -- 1,310,720T, 131,072T, −131,072T
   pub flat-right-hand : figuresOf flatF .rightHand ≡ pos 1374389534720 ∷ pos 137438953472 ∷ negsuc 137438953471 ∷ []
-  -- the sweep starts at the prior means, and here they pass
+  -- the sweep starts at the prior means: here they pass, and from elsewhere it comes to the same mean
   pub flat-listing : listing flatF ≡ listing (fileF 1)
+  pub flat-listing-from-2^26 : listing (flatFrom 0) ≡ ascii "J 1\nsweeps 1\nphi 0 10485760\nphi 1 1048576\npsi 0 -1048576\n"
+  -- and a prior mean has its limits without a prior too
+  pub flat-mean-above : fileCheck (flatFrom 1) ≡ refuses 8 34
   -- one part without a prior, first or last
-  pub flat-first : figuresOf (fileOf 1 0-in-8 2^46-in-8 2^46-in-8) .own ≡ 131072 ∷ 65537 ∷ 65537 ∷ []
-  pub flat-last : figuresOf (fileOf 1 2^46-in-8 2^46-in-8 0-in-8) .own ≡ 131073 ∷ 65537 ∷ 65536 ∷ []
+  pub flat-first : figuresOf (fileOf 1 10T-in-4 0-in-8 2^46-in-8 2^46-in-8) .own ≡ 131072 ∷ 65537 ∷ 65537 ∷ []
+  pub flat-last : figuresOf (fileOf 1 10T-in-4 2^46-in-8 2^46-in-8 0-in-8) .own ≡ 131073 ∷ 65537 ∷ 65536 ∷ []
   -- all else below 2^18 is refused, and what is above 2^46, at the first such variance
-  pub prior-variance-1 : fileCheck (fileOf 1 1-in-8 2^46-in-8 2^46-in-8) ≡ refuses 7 38
-  pub prior-variance-below : fileCheck (fileOf 1 0-in-8 below-2^18-in-8 0-in-8) ≡ refuses 7 50
-  pub prior-variance-above : fileCheck (fileOf 1 0-in-8 0-in-8 above-2^46-in-8) ≡ refuses 7 62
+  pub prior-variance-1 : fileCheck (fileOf 1 10T-in-4 1-in-8 2^46-in-8 2^46-in-8) ≡ refuses 7 38
+  pub prior-variance-below : fileCheck (fileOf 1 10T-in-4 0-in-8 below-2^18-in-8 0-in-8) ≡ refuses 7 50
+  pub prior-variance-above : fileCheck (fileOf 1 10T-in-4 0-in-8 0-in-8 above-2^46-in-8) ≡ refuses 7 62
 
 pub jointTable : JointTable
 unfolding leadingZeros sum total tabFrom logarithm bitsOf highestBit startFrom nextBit nextY weight bigEndian unsigned
     twosComplement rowStart fields check1 check2 check3 check4 check5 check6 check7 check8 check9 check10 fileCheck check16
     ratioVariance paidStep incurredStep lastRatio figuresOf partOf own matrix rightHand residue judgeFrom
     ascii decimalFrom signedDecimal aligned nameOf indexOf lines pageLine partLine openCall sweepCall writeCall
-    sweepText openText programText listed
+    sweeps sweepFrom step bringBack change sweepText openText programText listed
 jointTable = record {
   log-of-1 = refl;
   log-of-2^40 = refl;
@@ -190,6 +202,8 @@ jointTable = record {
   flat-matrix = refl;
   flat-right-hand = refl;
   flat-listing = refl;
+  flat-listing-from-2^26 = refl;
+  flat-mean-above = refl;
   flat-first = refl;
   flat-last = refl;
   prior-variance-1 = refl;

@@ -1,12 +1,12 @@
--- Document 02's files without a prior. Number 7 stands here twice, side by side: by the test that it has, and by one that asks a weight of
--- every prior. What the second accepts is accepted, with the figures that it had; the two part at a prior variance of 0 and nowhere
--- else. And a part without a prior rests on its own observations, of which it has at least one. Nothing builds on these laws.
+-- Document 02's files without a prior. Number 7 stands here twice, side by side: by the test that it has, and by one that asks a prior of
+-- every part. What the second accepts is accepted, with the figures that it had; the two part at a prior variance of 0 and nowhere
+-- else. And a part without a prior rests on its own observations, of which it has at least one. `PinnedPriors` draws all of it once more.
 use Prim.Native.Nat.{ℕ, _+_, _*_, _-_, _^_, _≤_, _<_}
-use mathlib.Core.Path.{_≡_, refl, sym, ap, subst, _∙_}
-use mathlib.Core.Logic.{_≢_, _⊎_, inl, inr, _↔_}
+use mathlib.Core.Path.{_≡_, refl, sym, ap, _∙_}
+use mathlib.Core.Logic.{_≢_}
 use mathlib.Core.Bool.{Bool, true}
 use native.Mathlib.Omega.{arith}
-use borrow.Author.Tests.{le-leb, ne-eqb}
+use borrow.Author.Tests.{ne-eqb}
 use lib.Dec.{T, leb}
 use lib.IntN.{pos, _+ℤ_, _-ℤ_, _*ℤ_, zero-*ℤ, +ℤ-idl}
 use Rattle.integers.specs.Sum.{sum}
@@ -17,10 +17,10 @@ use Rattle.definitions.specs.Refusals.{Check, unless, _then_, fields, goodPrior
 use Rattle.definitions.specs.Refusals.{check1, check2, check3, check4, check5, check6, check7, check8, check9, check10}
 use Rattle.definitions.specs.Observations.{Chain, chainOf, σ², τ², paidStep, incurredStep}
 use Rattle.definitions.specs.Matrix.{Figures, ownOf, own, targetOf, rightHand, ratiosOfLast}
-use Rattle.definitions.specs.Machine.{State, empty, holds, Outcome, refused, answers, openUnless, openCall}
+use Rattle.definitions.specs.Machine.{empty, openUnless, openCall}
 use Rattle.definitions.specs.Machine.{check16, openCheck, isClear, accepted}
 use Rattle.laws.specs.ClearChecks.{Kept, then-clear, kept-first, kept-second, fields-clear, fields-same}
-use Rattle.laws.specs.Accepted.{Within, within-yes, prior-yes, accepted-file}
+use Rattle.laws.specs.Accepted.{within-yes, accepted-file}
 use Rattle.laws.specs.FileBounds.{p-from, q-from, column-p, column-q}
 use Rattle.laws.specs.Ranks.{partOf-phi, partOf-psi}
 use Rattle.laws.specs.WeightLaws.{weight-of-none}
@@ -42,51 +42,20 @@ module _ (good : ℕ → Bool) where
   abbrev pub rowCheckBy : Bytes → ℕ → ℕ → Check
   rowCheckBy f channel year = fileCheckBy f then unless (leb channel 1) 14 0 then unless (leb year (lastYear f)) 15 0
 
-  abbrev pub openBy : (X : Type 0) (keep : Bytes → X) (figures : X → Figures) → State X → Bytes → Outcome X
-  openBy X keep figures empty f = openUnless X keep figures (openCheckBy f) f
-  openBy X keep figures (holds x μ total) f = answers X keep figures (holds x μ total) (refused 22 0)
-
--- by the test that it has they are the checks and the call of the definitions
+-- by the test that it has they are the definitions' checks
 pub fileCheck-is : (f : Bytes) → fileCheckBy goodPriorVariance f ≡ fileCheck f
 unfolding fileCheck check7
 fileCheck-is f = refl
 
-pub rowCheck-is : (f : Bytes) (channel year : ℕ) → rowCheckBy goodPriorVariance f channel year ≡ rowCheck f channel year
-unfolding rowCheck fileCheck check7
-rowCheck-is f channel year = refl
+-- the test that asks a prior of every part: 2^18 to 2^46, with no exception for 0
+abbrev pub isPrior : ℕ → Bool
+isPrior v = within (2 ^ 18) (2 ^ 46) v
 
-pub openCall-is : (X : Type 0) (keep : Bytes → X) (figures : X → Figures) (st : State X) (f : Bytes)
-    → openBy goodPriorVariance X keep figures st f ≡ openCall X keep figures st f
-unfolding openCall fileCheck check7
-openCall-is X keep figures empty f = refl
-openCall-is X keep figures (holds x μ total) f = refl
-
-pub prior-variance-is : (v : ℕ) → (goodPriorVariance v ≡ true) ↔ ((v ≡ 0) ⊎ ((262144 ≤ v) × (v ≤ 70368744177664)))
-prior-variance-is v = (λ e. told (prior-yes v (rw e tt)), taken)
-  where
-    told : (v ≡ 0) ⊎ Within (2 ^ 18) (2 ^ 46) v → (v ≡ 0) ⊎ ((262144 ≤ v) × (v ≤ 70368744177664))
-    told (inl none) = inl none
-    told (inr some) = inr (some .from, some .to)
-
-    taken : (v ≡ 0) ⊎ ((262144 ≤ v) × (v ≤ 70368744177664)) → goodPriorVariance v ≡ true
-    taken (inl none) = rw none refl
-    taken (inr some) = rw (ne-eqb v 0 (λ none. omega (arith, some .0)), le-leb (2 ^ 18) v (some .0), le-leb v (2 ^ 46) (some .1)) refl
-
--- the test that asks a weight of every prior: 2^18 to 2^46 and nothing else
-abbrev pub weighs : ℕ → Bool
-weighs v = within (2 ^ 18) (2 ^ 46) v
-
-pub weighs-is : (v : ℕ) → (weighs v ≡ true) ↔ ((262144 ≤ v) × (v ≤ 70368744177664))
-weighs-is v = (
-  λ e. let some = within-yes (2 ^ 18) (2 ^ 46) v (subst T (sym e) tt) in (some .from, some .to),
-  λ some. rw (le-leb (2 ^ 18) v (some .0), le-leb v (2 ^ 46) (some .1)) refl,
-)
-
-same-test : (v : ℕ) → v ≢ 0 → weighs v ≡ goodPriorVariance v
+same-test : (v : ℕ) → v ≢ 0 → isPrior v ≡ goodPriorVariance v
 same-test v some = rw (ne-eqb v 0 some) refl
 
-some-variance : (v : ℕ) → T (weighs v) → v ≢ 0
-some-variance v t none = omega (arith, within-yes (2 ^ 18) (2 ^ 46) v t .from)
+not-0 : (v : ℕ) → T (isPrior v) → v ≢ 0
+not-0 v t none = omega (arith, within-yes (2 ^ 18) (2 ^ 46) v t .from)
 
 -- ---- what the one accepts, the other does
 
@@ -94,44 +63,43 @@ module _ (f : Bytes) where
   abbrev n : ℕ
   n = parts (lastYear f)
 
-  check7-kept : Kept (check7By weighs f) (check7 f)
+  check7-kept : Kept (check7By isPrior f) (check7 f)
   unfolding check7
   check7-kept h =
       fields-same _ _ 7 (priorVarianceAt (lastYear f)) 0 n
-      (λ k from to. same-test (priorVariance f k) (some-variance (priorVariance f k) (fields-clear _ 7 _ 0 n h k from to)))
+      (λ k from to. same-test (priorVariance f k) (not-0 (priorVariance f k) (fields-clear _ 7 _ 0 n h k from to)))
 
-  file-kept : Kept (fileCheckBy weighs f) (fileCheck f)
+  file-kept : Kept (fileCheckBy isPrior f) (fileCheck f)
   unfolding fileCheck
   file-kept =
       kept-second (check1 f) (kept-second (check2 f) (kept-second (check3 f) (kept-second (check4 f) (kept-second (check5 f)
       (kept-second (check6 f) (kept-first _ check7-kept))))))
 
-  module _ (was : isClear (openCheckBy weighs f) ≡ true) where
-    open-kept : openCheckBy weighs f ≡ openCheck f
+  module _ (was : isClear (openCheckBy isPrior f) ≡ true) where
+    open-kept : openCheckBy isPrior f ≡ openCheck f
     open-kept = kept-first (check16 f) file-kept was
 
     pub still-accepted : accepted f ≡ true
     still-accepted = ap isClear (sym open-kept) ∙ was
 
-    -- open: the same figures are held, or whatever else is kept of the file, the same mean and the same total
-    pub opened-alike : (X : Type 0) (keep : Bytes → X) (figures : X → Figures) (st : State X)
-        → openBy weighs X keep figures st f ≡ openCall X keep figures st f
+    -- open, of an empty session: the same figures are held, or whatever else is kept of the file, the same mean and the same total
+    pub opened-alike : (X : Type 0) (keep : Bytes → X) (figures : X → Figures)
+        → openUnless X keep figures (openCheckBy isPrior f) f ≡ openCall X keep figures empty f
     unfolding openCall
-    opened-alike X keep figures empty = ap (λ check. openUnless X keep figures check f) open-kept
-    opened-alike X keep figures (holds x μ total) = refl
+    opened-alike X keep figures = ap (λ check. openUnless X keep figures check f) open-kept
 
     -- row, shown or told: with the same answer for every channel and year
-    pub row-alike : (channel year : ℕ) → rowCheckBy weighs f channel year ≡ rowCheck f channel year
+    pub row-alike : (channel year : ℕ) → rowCheckBy isPrior f channel year ≡ rowCheck f channel year
     unfolding rowCheck
     row-alike channel year =
-        let same : fileCheckBy weighs f ≡ fileCheck f = file-kept (then-clear {a = fileCheckBy weighs f} was .first) in
+        let same : fileCheckBy isPrior f ≡ fileCheck f = file-kept (then-clear {a = fileCheckBy isPrior f} was .first) in
         ap (λ check. check then unless (leb channel 1) 14 0 then unless (leb year (lastYear f)) 15 0) same
 
   -- the two part at a variance of 0 alone: where there is none, every file is let through or refused alike, with number and place
-  pub same-but-for-0 : ((k : ℕ) → k < n → priorVariance f k ≢ 0) → fileCheckBy weighs f ≡ fileCheck f
+  pub same-but-for-0 : ((k : ℕ) → k < n → priorVariance f k ≢ 0) → fileCheckBy isPrior f ≡ fileCheck f
   unfolding fileCheck check7
   same-but-for-0 some =
-      let same : check7By weighs f ≡ check7By goodPriorVariance f =
+      let same : check7By isPrior f ≡ check7By goodPriorVariance f =
       fields-same _ _ 7 (priorVarianceAt (lastYear f)) 0 n (λ k from to. same-test (priorVariance f k) (some k (omega arith))) in
       ap (λ seventh. check1 f then check2 f then check3 f then check4 f then check5 f then check6 f then seventh
       then check8 f then check9 f then check10 f) same

@@ -23,6 +23,7 @@
 --   Sizes             the sizes of entries, rows, right-hand side and residues, over limits that are left open
 --   FileBounds        the weights of an accepted file, and that each g is at most the weights whose variances are in its sum
 --   FlatPriors        number 7 with priors of no weight and without, side by side; what a part without a prior rests on
+--   PinnedPriors      both once more, in plain numbers
 --   FileLimits        the sizes of an accepted file's figures, as numbers
 --   StepLaws          one step of a sweep: one part changes, stays inside, residues follow
 --   SweepLaws         no step and no sweep raises the loss; a swept mean stays inside the limits
@@ -58,6 +59,7 @@ pub mod Rows
 pub mod Sizes
 pub mod FileBounds
 pub mod FlatPriors
+pub mod PinnedPriors
 pub mod FileLimits
 pub mod StepLaws
 pub mod SweepLaws
