@@ -32,7 +32,7 @@ class CellPlace(unittest.TestCase):
             file = build_file(samples.many_sweeps(last))
             for cell in cells(last):
                 place = cell_place(last, *cell)
-                refused = refusal_of(lambda lent=damage.put(file, place, 0, 8): Session().open(lent))
+                refused = refusal_of(lambda: Session().open(damage.put(file, place, 0, 8)))
                 self.assertEqual((refused.number, refused.place), (9, place))
 
     def test_the_row_read_at_it(self) -> None:

@@ -1,6 +1,7 @@
 """The page of a mean that passes: File F's and the sample's to the byte, others as the reference writes them."""
 
 import unittest
+from collections.abc import Callable
 from dataclasses import replace
 from random import Random
 
@@ -33,7 +34,10 @@ class ToTheByte(unittest.TestCase):
     def test_leaves_the_session_as_it_was(self) -> None:
         desk = opened()
         before = scripts.contents(desk)
-        for call in (desk.page, lambda: desk.page_into(bytearray(100)), lambda: refusal_of(lambda: desk.page_into(bytearray(83)))):
+        calls: tuple[Callable[[], object], ...] = (
+            desk.page, lambda: desk.page_into(bytearray(100)), lambda: refusal_of(lambda: desk.page_into(bytearray(83))),
+        )
+        for call in calls:
             call()
             self.assertEqual(scripts.contents(desk), before)
 
