@@ -1,5 +1,5 @@
--- What a check that is clear says of the checks and the fields that it is made of, and two checks side by side: of the one is kept
--- whatever the other lets through.
+-- What a check that is clear says of the checks and the fields that it is made of; and two checks side by side, of which the one lets
+-- through whatever the other does.
 use Prim.Native.Nat.{ℕ, zero, suc, _+_, _≤_, _<_}
 use mathlib.Core.Path.{_≡_, refl, ap, ap₂, subst}
 use mathlib.Core.Logic.{_⊎_, inl, inr}

@@ -25,7 +25,7 @@ use Rattle.laws.specs.FileBounds.{p-from, q-from, column-p, column-q}
 use Rattle.laws.specs.Ranks.{partOf-phi, partOf-psi}
 use Rattle.laws.specs.WeightLaws.{weight-of-none}
 
--- ---- number 7 by some test of a prior variance, the other numbers and the calls as they are
+-- ---- number 7 by some test of a prior variance; the other numbers, and the checks of open and row, as they are
 
 module _ (good : ℕ → Bool) where
   abbrev pub check7By : Bytes → Check
