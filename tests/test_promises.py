@@ -92,7 +92,7 @@ STARRED = {
 
 # F without priors, and the prior variances that are refused beside them.
 WITHOUT_PRIORS = {
-    "weight-of-0", "flat-accepted", "flat-own", "flat-matrix", "flat-right-hand", "flat-listing", "flat-listing-from-2^26",
+    "weight-of-0", "flat-accepted", "flat-own", "flat-matrix", "flat-right-hand", "flat-listing", "flat-start",
     "flat-mean-above", "flat-first", "flat-last", "prior-variance-1", "prior-variance-below", "prior-variance-above",
 }
 

@@ -15,7 +15,6 @@ use Rattle.definitions.specs.Layout.{Bytes, bigEndian, unsigned, twosCom
 use Rattle.definitions.specs.Refusals.{refuses, fields, check1, check2, check3, check4, check5, check6, check7, check8, check9, check10, fileCheck}
 use Rattle.definitions.specs.Observations.{Chain, chainOf, ratioVariance, paidStep, incurredStep, lastRatio}
 use Rattle.definitions.specs.Matrix.{Φ, Ψ, Figures, figuresOf, partOf, own, matrix, rightHand, residue, passed, fails, judgement, judgeFrom}
-use Rattle.definitions.specs.Sweep.{sweeps, sweepFrom, step, bringBack, change}
 use Rattle.definitions.specs.Text.{ascii, decimalFrom, signedDecimal, aligned, nameOf, indexOf, lines}
 use Rattle.definitions.specs.Page.{pageLine, pageOf}
 use Rattle.definitions.specs.Machine.{accepted, check16, refused, written, State, empty, holds, Outcome, openCall, sweepCall, writeCall, pageCall}
@@ -71,6 +70,10 @@ flatF = fileOf 1 10T-in-4 0-in-8 0-in-8 0-in-8
 -- the same with the first prior mean at 2^26 + b
 abbrev flatFrom : ℕ → Bytes
 flatFrom b = fileOf 1 (4 ∷ 0 ∷ 0 ∷ b ∷ []) 0-in-8 0-in-8 0-in-8
+
+-- what a session holds that opened it
+abbrev openedFrom : ℕ → State Figures
+openedFrom b = openCall Figures figuresOf (λ G. G) empty (flatFrom b) .state
 
 abbrev F : Figures
 F = figuresOf (fileF 1)
@@ -147,9 +150,9 @@ pub record JointTable : Type 0 where
       ∷ []
   -- 1,310,720T, 131,072T, −131,072T
   pub flat-right-hand : figuresOf flatF .rightHand ≡ pos 1374389534720 ∷ pos 137438953472 ∷ negsuc 137438953471 ∷ []
-  -- the sweep starts at the prior means: here they pass, and from elsewhere it comes to the same mean
+  -- the prior means of F pass, and the sweep starts at them: in no figure does the one of a flat prior count
   pub flat-listing : listing flatF ≡ listing (fileF 1)
-  pub flat-listing-from-2^26 : listing (flatFrom 0) ≡ ascii "J 1\nsweeps 1\nphi 0 10485760\nphi 1 1048576\npsi 0 -1048576\n"
+  pub flat-start : openedFrom 0 ≡ holds (figuresOf flatF) (pos 67108864 ∷ pos 1048576 ∷ negsuc 1048575 ∷ []) 0
   -- and a prior mean has its limits without a prior too
   pub flat-mean-above : fileCheck (flatFrom 1) ≡ refuses 8 34
   -- one part without a prior, first or last
@@ -165,7 +168,7 @@ unfolding leadingZeros sum total tabFrom logarithm bitsOf highestBit startFrom n
     twosComplement rowStart fields check1 check2 check3 check4 check5 check6 check7 check8 check9 check10 fileCheck check16
     ratioVariance paidStep incurredStep lastRatio figuresOf partOf own matrix rightHand residue judgeFrom
     ascii decimalFrom signedDecimal aligned nameOf indexOf lines pageLine partLine openCall sweepCall writeCall
-    sweeps sweepFrom step bringBack change sweepText openText programText listed
+    sweepText openText programText listed
 jointTable = record {
   log-of-1 = refl;
   log-of-2^40 = refl;
@@ -202,7 +205,7 @@ jointTable = record {
   flat-matrix = refl;
   flat-right-hand = refl;
   flat-listing = refl;
-  flat-listing-from-2^26 = refl;
+  flat-start = refl;
   flat-mean-above = refl;
   flat-first = refl;
   flat-last = refl;
