@@ -1,6 +1,7 @@
 """Files without a prior: which parts lack one in the samples and the vectors, and what is listed for them."""
 
 import unittest
+from collections.abc import Callable
 from random import Random
 
 import samples
@@ -10,6 +11,7 @@ from listing import listing
 
 VARIANCES = {"1": 1, "below-the-least": (1 << 18) - 1, "least": 1 << 18, "most": 1 << 46, "above-the-most": (1 << 46) + 1}
 MEANS = {"below-the-lowest": -(1 << 26) - 1, "lowest": -(1 << 26), "highest": 1 << 26, "above-the-highest": (1 << 26) + 1}
+Field = tuple[Callable[[int, int], int], Callable[[bytes, int], int]]  # its place by J and part, and what is read there
 ENDS = ((1, 0), (15, 30))  # J, and the part whose prior is the first in the shortest file or the last in the longest
 
 
@@ -51,22 +53,26 @@ class Vectors(unittest.TestCase):
                 self.assertEqual(flat_parts(read_file(self.inputs[name])), wanted)
                 self.assertEqual(self.listed(name)[0], f"J {last}")
 
-    def test_prior_variances(self) -> None:
+    def assert_taken_or_refused(self, kind: str, values: dict[str, int], taken: tuple[str, str], number: int, field: Field) -> None:
+        """Each value stands in its vector, at both ends, beside flat priors; two are taken, and the others refused at their place."""
+        place_of, read = field
         for last, part in ENDS:
-            place = prior_variance_place(last, part)
-            for name, variance in VARIANCES.items():
-                lent = self.inputs[f"prior-variance-{name}-{last:02}"]
-                first = f"J {last}" if name in ("least", "most") else f"refused 7 at {place}"
-                self.assertEqual((unsigned(lent, place, 8), listing(lent).splitlines()[0]), (variance, first))
+            place = place_of(last, part)
+            for name, value in values.items():
+                lent = self.inputs[f"{kind}-{name}-{last:02}"]
+                first = f"J {last}" if name in taken else f"refused {number} at {place}"
+                self.assertEqual((read(lent, place), listing(lent).splitlines()[0]), (value, first))
+
+    def test_prior_variances(self) -> None:
+        field = (prior_variance_place, lambda lent, place: unsigned(lent, place, 8))
+        self.assert_taken_or_refused("prior-variance", VARIANCES, ("least", "most"), 7, field)
 
     def test_prior_means(self) -> None:
-        for last, part in ENDS:
-            place = prior_mean_place(last, part)
-            for name, mean in MEANS.items():
-                lent = self.inputs[f"flat-mean-{name}-{last:02}"]
-                first = f"J {last}" if name in ("lowest", "highest") else f"refused 8 at {place}"
-                self.assertEqual((signed(lent, place, 4), unsigned(lent, place + 4, 8)), (mean, FLAT))
-                self.assertEqual(listing(lent).splitlines()[0], first)
+        def read(lent: bytes, place: int) -> int:
+            self.assertEqual(unsigned(lent, place + 4, 8), FLAT)
+            return signed(lent, place, 4)
+
+        self.assert_taken_or_refused("flat-mean", MEANS, ("lowest", "highest"), 8, (prior_mean_place, read))
         self.assertEqual(self.listed("flat-mean-and-variance-1"), ["refused 7 at 62"])
 
     def test_settled_and_spent(self) -> None:

@@ -150,7 +150,7 @@ pub record JointTable : Type 0 where
       ∷ []
   -- 1,310,720T, 131,072T, −131,072T
   pub flat-right-hand : figuresOf flatF .rightHand ≡ pos 1374389534720 ∷ pos 137438953472 ∷ negsuc 137438953471 ∷ []
-  -- the prior means of F pass, and the sweep starts at them: in no figure does the one of a flat prior count
+  -- the sweep starts at the prior means: those of F pass, and another one is held in its place and changes no figure
   pub flat-listing : listing flatF ≡ listing (fileF 1)
   pub flat-start : openedFrom 0 ≡ holds (figuresOf flatF) (pos 67108864 ∷ pos 1048576 ∷ negsuc 1048575 ∷ []) 0
   -- and a prior mean has its limits without a prior too
