@@ -125,7 +125,7 @@ module _ (f : Bytes) where
   unfolding own
   own-of-psi j below none = ap (ownOf c) (partOf-psi J j) ∙ ap (λ w. w + (J - j) * weight (τ² f j)) (no-weight none) ∙ omega arith
 
-  -- its prior mean is in no equation: the sweep starts there, and that is all
+  -- its prior mean counts in no equation: the sweep starts there, and that is all
   pub right-hand-of-phi : (j : ℕ) → j ≤ J → priorVariance f j ≡ 0
       → rightHand c j ≡ pos (weight (σ² f j)) *ℤ sum (J - j + 1) (λ i. paidStep f i j) +ℤ ratiosOfLast c j
   unfolding rightHand
