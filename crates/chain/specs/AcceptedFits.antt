@@ -7,15 +7,13 @@ use native.Mathlib.Omega.{arith}
 use lib.IntN.{pos, natAbs, ℤ}
 use lib.Signed.{_≤ℤ_}
 use Rattle.integers.specs.Linear.{linear}
-use Rattle.integers.specs.Order.{pos-≤}
 use Rattle.definitions.specs.Words.{tabFrom, part}
 use Rattle.definitions.specs.Layout.{Bytes, lastYear, parts}
 use Rattle.definitions.specs.Observations.{chainOf}
 use Rattle.definitions.specs.Matrix.{own, matrix, rightHand, figuresOf, entry}
 use Rattle.definitions.specs.Machine.{accepted}
 use Rattle.laws.specs.Accepted.{AcceptedFile, accepted-file}
-use Rattle.laws.specs.Diagonal.{diagonal-is}
-use Rattle.laws.specs.FileBounds.{file-owned}
+use Rattle.laws.specs.Diagonal.{diagonal-positive}
 use Rattle.laws.specs.FileLimits.{file-limits, entry-fits, diagonal-fits, right-hand-fits}
 use Rattle.laws.specs.Tables.{tab-at}
 use Rattle.chain.specs.Fitting.{Fitting, diagonalLimit, entryLimit}
@@ -31,10 +29,6 @@ module _ (f : Bytes) (h : AcceptedFile f) where
   unfolding figuresOf
   entry-of-file k l k-below l-below =
       ap (λ row. part row l) (tab-at count (λ i. tabFrom 0 count (A i)) k [] k-below) ∙ tab-at count (A k) l (pos 0) l-below
-
-  diagonal-positive : (k : ℕ) → k < count → pos 1 ≤ℤ A k k
-  diagonal-positive k below =
-      subst (λ a. pos 1 ≤ℤ a) (sym (diagonal-is (chainOf f) k below)) (pos-≤ .0 (omega (arith, file-owned f h .owned k below)))
 
   diagonal-at-most : (k : ℕ) → k < count → A k k ≤ℤ pos diagonalLimit
   diagonal-at-most k below =
@@ -53,7 +47,7 @@ module _ (f : Bytes) (h : AcceptedFile f) where
     close = h .close .to;
     own-weights = λ k below. omega (arith, file-limits f h .own-to k below, tab-at count (own (chainOf f)) k 0 below);
     entries = off-diagonal;
-    diagonal = λ k below. subst (λ a. pos 1 ≤ℤ a) (sym (entry-of-file k k below below)) (diagonal-positive k below);
+    diagonal = λ k below. subst (λ a. pos 1 ≤ℤ a) (sym (entry-of-file k k below below)) (diagonal-positive f h k below);
     diagonal-to = λ k below. subst (λ a. a ≤ℤ pos diagonalLimit) (sym (entry-of-file k k below below)) (diagonal-at-most k below);
     right-hand = λ k below.
         let small = right-hand-fits f h k below in

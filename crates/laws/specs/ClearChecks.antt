@@ -35,6 +35,14 @@ fields-clear good number placeOf i (suc n) h k from to =
     here-or-later (inl e) here later = subst (λ n. T (good n)) e here
     here-or-later (inr l) here later = later l
 
+-- and where each of the fields is good, it is clear
+pub fields-good : (good : ℕ → Bool) (number : ℕ) (placeOf : ℕ → ℕ) (i n : ℕ) → ((k : ℕ) → i ≤ k → k < i + n → good k ≡ true)
+    → fields good number placeOf i n ≡ clear
+unfolding fields
+fields-good good number placeOf i zero all = refl
+fields-good good number placeOf i (suc n) all =
+    rw (all i (omega arith) (omega arith)) (fields-good good number placeOf (suc i) n (λ k from to. all k (omega arith) (omega arith)))
+
 -- ---- side by side
 
 pub fields-same : (good other : ℕ → Bool) (number : ℕ) (placeOf : ℕ → ℕ) (i n : ℕ)

@@ -1,20 +1,20 @@
--- The precision matrix is symmetric, and on its diagonal positive for every file that the checks 1 to 10 let through: no part lacks
--- an observation, and so none needs a prior. Number 16 therefore never refuses.
-use Prim.Native.Nat.{ℕ, zero, suc, _+_, _*_, _≤_, _<_, min}
+-- The precision matrix is symmetric, and on its diagonal positive for every accepted file: no part lacks an observation, and so none
+-- needs a prior.
+use Prim.Native.Nat.{ℕ, _+_, _*_, _<_, min}
 use mathlib.Core.Path.{_≡_, refl, sym, ap, ap₂, _∙_, subst}
-use mathlib.Core.Bool.{Bool, true, false, not}
+use mathlib.Core.Bool.{Bool, true, false}
 use native.Mathlib.Omega.{arith}
-use lib.Dec.{T, eqb, eqb→eq, not-T}
-use lib.IntN.{pos, natAbs, _+ℤ_, _*ℤ_, *ℤ-comm}
+use lib.Dec.{T, eqb, eqb→eq}
+use lib.IntN.{pos, _+ℤ_, _*ℤ_, *ℤ-comm}
+use lib.Signed.{_≤ℤ_}
+use Rattle.integers.specs.Order.{pos-≤}
 use Rattle.integers.specs.Sum.{total}
 use Rattle.integers.specs.SumRange.{only, only-same}
 use Rattle.integers.specs.Total.{pos-total}
 use Rattle.definitions.specs.Layout.{Bytes, lastYear, parts}
-use Rattle.definitions.specs.Refusals.{Check, clear, unless, _then_, fields, fileCheck}
 use Rattle.definitions.specs.Observations.{Chain, chainOf}
 use Rattle.definitions.specs.Matrix.{Part, Φ, Ψ, partOf, own, matrix, sharedBy}
-use Rattle.definitions.specs.Machine.{isClear, check16}
-use Rattle.laws.specs.Accepted.{file-clear}
+use Rattle.laws.specs.Accepted.{AcceptedFile}
 use Rattle.laws.specs.FileBounds.{file-owned}
 use Rattle.laws.specs.Ranks.{rankOf, signOf, rankEntry, matrix-by-ranks, same-index}
 
@@ -59,31 +59,9 @@ module _ (c : Chain) where
           whole : (n : ℕ) → 1 * n ≡ n
           whole n = omega arith
 
--- ---- number 16
+-- ---- of an accepted file
 
-module _ (good : ℕ → Bool) (number : ℕ) (placeOf : ℕ → ℕ) where
-  fields-all-good : (i n : ℕ) → ((k : ℕ) → i ≤ k → k < i + n → T (good k)) → fields good number placeOf i n ≡ clear
-  unfolding fields
-  fields-all-good i zero h = refl
-  fields-all-good i (suc n) h =
-      passed (good i) _ (h i (omega arith) (omega arith)) ∙ fields-all-good (suc i) n (λ k from to. h k (omega arith) (omega arith))
-    where
-      passed : (t : Bool) (rest : Check) → T t → unless t number (placeOf i) then rest ≡ rest
-      passed true rest t = refl
-      passed false rest t = absurd t
-
-module _ (f : Bytes) (h : isClear (fileCheck f) ≡ true) where
-  abbrev diagonal : ℕ → ℕ
-  diagonal k = natAbs (matrix (chainOf f) k k)
-
-  pub diagonal-positive : (k : ℕ) → k < parts (lastYear f) → 1 ≤ diagonal k
-  diagonal-positive k below = rw (diagonal-is (chainOf f) k below) (omega (arith, file-owned f (file-clear f h) .owned k below))
-
-  pub number-16-never : check16 f ≡ clear
-  unfolding check16
-  number-16-never =
-      fields-all-good (λ k. not (eqb (diagonal k) 0)) 16 (λ k. 0) 0 (parts (lastYear f))
-      (λ k _ to. not-T (eqb (diagonal k) 0) (λ t. none (eqb→eq (diagonal k) 0 t) (diagonal-positive k (omega arith))))
-    where
-      none : {n : ℕ} → n ≡ 0 → 1 ≤ n → ⊥
-      none e some = omega arith
+module _ (f : Bytes) (h : AcceptedFile f) where
+  pub diagonal-positive : (k : ℕ) → k < parts (lastYear f) → pos 1 ≤ℤ matrix (chainOf f) k k
+  diagonal-positive k below =
+      subst (λ a. pos 1 ≤ℤ a) (sym (diagonal-is (chainOf f) k below)) (pos-≤ .0 (omega (arith, file-owned f h .owned k below)))

@@ -18,7 +18,8 @@
 --   Judged            passed exactly if every |residue| ≤ e·D
 --   Demand3           DEMAND 3, whole, for every accepted file
 --   Pinned            demand 3 at its very limits, so that no statement of it can be weakened
---   Diagonal          the matrix is symmetric, its diagonal positive; number 16 never refuses
+--   Diagonal          the matrix is symmetric, its diagonal positive
+--   Number16          DOCUMENT 02: what 1 to 10 let through has a positive diagonal; with number 16 behind them open answers alike
 --   Rows              a row that is shown is inside its file and has an amount
 --   Sizes             the sizes of entries, rows, right-hand side and residues, over limits that are left open
 --   FileBounds        the weights of an accepted file, and that each g is at most the weights whose variances are in its sum
@@ -55,6 +56,7 @@ pub mod Judged
 pub mod Demand3
 pub mod Pinned
 pub mod Diagonal
+pub mod Number16
 pub mod Rows
 pub mod Sizes
 pub mod FileBounds

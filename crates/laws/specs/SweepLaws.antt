@@ -10,7 +10,7 @@ use lib.IntN.{ℤ, pos, natAbs, _+ℤ_, _-ℤ_, _*ℤ_}
 use lib.ListN.{length}
 use lib.Signed.{_≤ℤ_, ≤ℤ-refl}
 use Rattle.integers.specs.Linear.{linear, zarith}
-use Rattle.integers.specs.Order.{≤ℤ-trans, pos-≤}
+use Rattle.integers.specs.Order.{≤ℤ-trans}
 use Rattle.integers.specs.Solver.{ring, _⊞_, _⊟_, _⊠_, num, _≐_}
 use Rattle.integers.specs.Sum.{sum, sum-cong, sum-+}
 use Rattle.integers.specs.SumRange.{sum-one}
@@ -22,8 +22,7 @@ use Rattle.definitions.specs.Observations.{Chain, chainOf}
 use Rattle.definitions.specs.Matrix.{residueTimes, Figures, figuresOf, entry, residue, passes}
 use Rattle.definitions.specs.Sweep.{change, step, sweepFrom, oneSweep, sweeps, sweepLimit}
 use Rattle.laws.specs.Accepted.{AcceptedFile}
-use Rattle.laws.specs.Diagonal.{diagonal-is}
-use Rattle.laws.specs.FileBounds.{file-owned}
+use Rattle.laws.specs.Diagonal.{diagonal-positive}
 use Rattle.laws.specs.Judged.{entry-of-file, residue-of-file}
 use Rattle.laws.specs.LossForm.{loss-is-form}
 use Rattle.laws.specs.PrecisionMatrix.{lossForm, residue-is-form}
@@ -75,9 +74,7 @@ module _ (f : Bytes) (h : AcceptedFile f) where
 
   diagonal-at-least-one : (k : ℕ) → k < parts (lastYear f) → pos 1 ≤ℤ entry F k k
   diagonal-at-least-one k below =
-      subst (λ z. pos 1 ≤ℤ z)
-      (sym (entry-of-file f k k below below ∙ diagonal-is c k below))
-      (pos-≤ .0 (omega (arith, file-owned f h .owned k below)))
+      subst (λ z. pos 1 ≤ℤ z) (sym (entry-of-file f k k below below)) (diagonal-positive f h k below)
 
   module _ (μ : List ℤ) (k : ℕ) (m : MeanOf f μ) (below : k < parts (lastYear f)) where
     there : k < length μ

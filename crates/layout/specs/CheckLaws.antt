@@ -2,7 +2,7 @@
 use Prim.Native.Nat.{ℕ, zero, suc, _+_, _-_, _≤_, _<_}
 use mathlib.Core.Path.{_≡_, refl, sym, ap, ap₂, _∙_, fun-ext}
 use mathlib.Core.Bool.{Bool, true, false, _&&_, _||_}
-use native.Mathlib.Nat.{sub-zero, add-zero, add-suc, suc-add}
+use native.Mathlib.Nat.{sub-zero}
 use native.Mathlib.Numerals.{add-one}
 use native.Mathlib.Omega.{arith}
 use borrow.Author.Tests.{le-leb, lt-leb, leb-true, eqb-true}
@@ -108,14 +108,6 @@ unfolding recordCheck recordHead
 record-checks J r = sym (then-assoc (lengthCheck 5 r) (unless (eqb (version r) 1) 2 4) (unless (eqb (length r) (recordLength J)) 4 0) _)
 
 -- ---- the fields of a number, n of them, one after another
-
-pub fields-clear : (good : ℕ → Bool) (number : ℕ) (place : ℕ → ℕ) (i n : ℕ) → ((k : ℕ) → k < n → good (i + k) ≡ true)
-    → fields good number place i n ≡ clear
-unfolding fields
-fields-clear good number place i zero all = refl
-fields-clear good number place i (suc n) all =
-    let first : good i ≡ true = rw (add-zero i) at (all 0 (omega arith)) in
-    rw first (fields-clear good number place (suc i) n (λ k h. rw (suc-add i k, ← add-suc i k) (all (suc k) (omega arith))))
 
 -- the fields from i on give what all of them give: what a loop over the fields keeps
 pub record Left (good : ℕ → Bool) (number : ℕ) (place : ℕ → ℕ) (n i : ℕ) : Type 0 where

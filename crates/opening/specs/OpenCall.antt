@@ -5,7 +5,6 @@ use mathlib.Core.Path.{_≡_, refl, sym, ap, subst, _∙_}
 use mathlib.Core.Bool.{true, not}
 use mathlib.Core.List.{List}
 use native.Mathlib.Omega.{arith}
-use native.Mathlib.Nat.{zero-add}
 use borrow.Author.Tests.{ne-eqb}
 use lib.Dec.{eqb}
 use lib.IntN.{ℤ, pos, negsuc, natAbs}
@@ -17,11 +16,11 @@ use Rattle.definitions.specs.Matrix as D
 use Rattle.definitions.specs.Matrix.{entry}
 use Rattle.definitions.specs.Machine.{isClear, openCheck}
 use Rattle.laws.specs.Accepted.{AcceptedFile, file-clear}
-use Rattle.laws.specs.Diagonal.{number-16-never}
+use Rattle.laws.specs.ClearChecks.{fields-good}
+use Rattle.laws.specs.Number16.{same-check}
 use Rattle.laws.specs.Tables.{tab-cong}
 use Rattle.layout.specs.declared.checks.Check.{Check}
 use Rattle.layout.specs.Checks.{told}
-use Rattle.layout.specs.CheckLaws.{fields-clear}
 use Rattle.chain.specs.declared.arrays.Figures.{Figures}
 use Rattle.chain.specs.Arrays.{figuresOf, meanOf, cell}
 use Rattle.chain.specs.Fitting.{Fitting}
@@ -44,7 +43,7 @@ pub refuses-clear : {number place : ℕ} → refuses number place ≡ clear → 
 refuses-clear e = let z : _≡_ {A = ℕ} 0 1 = cc in omega arith
 
 open-clear : (file : Bytes) → fileCheck file ≡ clear → openCheck file ≡ clear
-open-clear file passed = rw passed (number-16-never file (ap isClear passed))
+open-clear file passed = same-check file ∙ passed
 
 not-zero : (z : ℤ) → pos 1 ≤ℤ z → not (eqb (natAbs z) 0) ≡ true
 not-zero (pos zero) h = absurd (h .le)
@@ -68,8 +67,9 @@ module _ (file : Bytes) (passed : fileCheck file ≡ clear) (F : Figures) (same 
   diagonal k below = fitting .diagonal k below
 
   pub diagonal-clear : {r : Check} → DiagonalOf (F .last) (F .matrix) r → told r ≡ clear
-  diagonal-clear h = h .is ∙ fields-clear (nonZero (F .matrix)) 16 (λ k. 0) 0 (parts (F .last))
-      (λ k below. rw (zero-add k) (not-zero (cell (F .matrix) k k) (rw (entry-of F k k below below) at (diagonal k below))))
+  diagonal-clear h = h .is ∙ fields-good (nonZero (F .matrix)) 16 (λ k. 0) 0 (parts (F .last))
+      (λ k from to. let below : k < parts (F .last) = omega arith in
+      not-zero (cell (F .matrix) k k) (rw (entry-of F k k below below) at (diagonal k below)))
 
   module _ (mean : List ℤ) (priors : PriorMeans file mean) where
     abbrev after : Held

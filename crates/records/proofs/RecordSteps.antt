@@ -15,7 +15,8 @@ use Rattle.integers.specs.Linear.{linear}
 use Rattle.definitions.specs.Words.{tabFrom, part}
 use Rattle.definitions.specs.Layout.{Bytes, parts, recordLength, bytesOf, fourBytes, partBytes, recordOf}
 use Rattle.definitions.specs.Refusals.{partLimit}
-use Rattle.records.specs.Records.{FourPut, withParts, tab-length, tab-snoc, bytes-length, part-bytes-length, part-bytes-snoc}
+use Rattle.laws.specs.Tables.{tabFrom-length, tabFrom-snoc}
+use Rattle.records.specs.Records.{FourPut, withParts, bytes-length, part-bytes-length, part-bytes-snoc}
 
 -- ---- reading: part k in place of the first zero
 
@@ -24,10 +25,10 @@ pub read-next : (f : ℕ → ℤ) (size k : ℕ) → k < size
 read-next f size k h =
     let e : size - k ≡ suc (size - (k + 1)) = omega arith in
     ap (λ n. set (tabFrom 0 k f ++ replicate n (pos 0)) k (f k)) e
-    ∙ set-at (tabFrom 0 k f) (pos 0) (replicate (size - (k + 1)) (pos 0)) (f k) k (tab-length f 0 k)
+    ∙ set-at (tabFrom 0 k f) (pos 0) (replicate (size - (k + 1)) (pos 0)) (f k) k (tabFrom-length 0 k f)
     ∙ sym (append-assoc (tabFrom 0 k f) (f k ∷ []) (replicate (size - (k + 1)) (pos 0)))
     ∙ ap (λ l. l ++ replicate (size - (k + 1)) (pos 0))
-    (ap (λ j. tabFrom 0 k f ++ f j ∷ []) (sym (zero-add k)) ∙ sym (tab-snoc f 0 k) ∙ ap (λ n. tabFrom 0 n f) (sym (add-one k)))
+    (ap (λ j. tabFrom 0 k f ++ f j ∷ []) (sym (zero-add k)) ∙ sym (tabFrom-snoc 0 k f) ∙ ap (λ n. tabFrom 0 n f) (sym (add-one k)))
 
 -- ---- a negative part as a number of four bytes
 

@@ -8,14 +8,15 @@ use native.Mathlib.Numerals.{add-one}
 use native.Mathlib.Omega.{arith}
 use borrow.Author.Tests.{lt-ltb, le-ltb, le-leb, eq-eqb}
 use lib.IntN.{ℤ, pos, negsuc, natAbs}
-use lib.ListN.{length, take, drop, getD, replicate, length-append}
+use lib.ListN.{length, take, drop, replicate, length-append}
 use lib.Seq.{take-at, drop-at, drop-append-add, ext-getD}
 use Rattle.integers.specs.Linear.{linear}
-use Rattle.definitions.specs.Words.{tabFrom, part}
+use Rattle.definitions.specs.Words.{part}
 use Rattle.definitions.specs.Layout.{Bytes, bigEndian, unsigned, twosComplement, signed, lengthWord, version, parts, partAt, recordLength}
 use Rattle.definitions.specs.Layout.{meanOf, bytesOf, fourBytes, partBytes, recordOf}
 use Rattle.definitions.specs.Refusals.{partLimit, goodPart, clear, recordCheck}
-use Rattle.layout.specs.CheckLaws.{fields-clear}
+use Rattle.laws.specs.ClearChecks.{fields-good}
+use Rattle.laws.specs.Tables.{tabFrom-length, tab-at}
 
 -- so many parts of a mean are inside the limits
 abbrev pub InLimits : ℕ → List ℤ → Type 0
@@ -32,25 +33,6 @@ pub record FourPut (b : Bytes) (at v : ℕ) (r : Bytes) : Type 0 where
 -- a buffer with k parts behind its first five bytes; the bytes behind them are as they were
 abbrev pub withParts : Bytes → List ℤ → ℕ → Bytes
 withParts b μ k = take 5 b ++ partBytes 0 k μ ++ drop (5 + 4 * k) b
-
--- ---- tables
-
-module _ {A : Type 0} (f : ℕ → A) where
-  pub tab-length : (i n : ℕ) → length (tabFrom i n f) ≡ n
-  unfolding tabFrom
-  tab-length i zero = refl
-  tab-length i (suc n) = ap suc (tab-length (suc i) n)
-
-  pub tab-snoc : (i n : ℕ) → tabFrom i (suc n) f ≡ tabFrom i n f ++ f (i + n) ∷ []
-  unfolding tabFrom
-  tab-snoc i zero = ap (λ j. f j ∷ []) (sym (add-zero i))
-  tab-snoc i (suc n) = ap (λ l. f i ∷ l) (tab-snoc (suc i) n ∙ ap (λ j. tabFrom (suc i) n f ++ f j ∷ []) (suc-add i n ∙ sym (add-suc i n)))
-
-  pub tab-part : (d : A) (i n k : ℕ) → k < n → getD (tabFrom i n f) k d ≡ f (i + k)
-  unfolding tabFrom
-  tab-part d i zero k h = absurd (omega arith)
-  tab-part d i (suc n) zero h = ap f (sym (add-zero i))
-  tab-part d i (suc n) (suc k) h = tab-part d (suc i) n k (omega arith) ∙ ap f (suc-add i k ∙ sym (add-suc i k))
 
 -- ---- bytes of a number
 
@@ -139,10 +121,10 @@ module _ (J : ℕ) (μ : List ℤ) (inside : InLimits (parts J) μ) where
   pub mean-read : length μ ≡ parts J → meanOf J (recordOf J μ) ≡ μ
   mean-read e =
       let f : ℕ → ℤ = λ k. signed (partAt k) (recordOf J μ) in
-      let long = tab-length f 0 (parts J) in
+      let long = tabFrom-length 0 (parts J) f in
       ext-getD (pos 0) (meanOf J (recordOf J μ)) μ (long ∙ sym e) (λ k h.
       let below : k < parts J = omega (arith, long) in
-      tab-part f (pos 0) 0 (parts J) k below ∙ ap f (zero-add k) ∙ part-read k below)
+      tab-at (parts J) f k (pos 0) below ∙ part-read k below)
 
 -- ---- what is written is not refused
 
@@ -170,10 +152,10 @@ record-clear J μ small inside =
     let r = recordOf J μ in
     let long : 5 ≤ length r = omega (arith, record-length J μ) in
     let right = eq-eqb (lengthWord r) (length r) (length-read J μ (omega arith) ∙ sym (record-length J μ)) in
-    let good : (k : ℕ) → k < parts J → goodPart (signed (partAt (0 + k)) r) ≡ true
-    = λ k h. rw (zero-add k, part-read J μ inside k h) (le-leb (natAbs (part μ k)) partLimit (inside k h)) in
+    let good : (k : ℕ) → k < parts J → goodPart (signed (partAt k) r) ≡ true
+    = λ k h. rw (part-read J μ inside k h) (le-leb (natAbs (part μ k)) partLimit (inside k h)) in
     rw (le-leb 5 (length r) long, right, eq-eqb (version r) 1 (version-read J μ), eq-eqb (length r) (recordLength J) (record-length J μ))
-    (fields-clear (λ k. goodPart (signed (partAt k) r)) 11 partAt 0 (parts J) good)
+    (fields-good (λ k. goodPart (signed (partAt k) r)) 11 partAt 0 (parts J) (λ k from to. good k (omega arith)))
 
 -- ---- only the parts count
 
