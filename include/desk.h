@@ -28,9 +28,9 @@
 extern "C" {
 #endif
 
-#define DESK_VERSION "1.4.0"
+#define DESK_VERSION "1.5.0"
 #define DESK_VERSION_MAJOR 1
-#define DESK_VERSION_MINOR 4
+#define DESK_VERSION_MINOR 5
 #define DESK_VERSION_PATCH 0
 
 #define DESK_PAID UINT64_C(0) /* the channels of a row */
@@ -126,7 +126,7 @@ desk_system desk_figures_lent(const uint64_t held[3], const uint64_t own[31], co
 void desk_close_lent(uint64_t held[3]);
 
 /* Opens a file: the session then holds its figures, the prior means as mean and 0 sweeps.
- * May be refused with 22, then 1 to 10, then 16 (which never happens). */
+ * May be refused with 22, then 1 to 10. */
 static inline desk_refusal desk_open(desk_session *s, const uint8_t *file, size_t length) {
     return desk_open_lent(s->held, s->own, s->matrix, s->right_hand, s->mean, file, length);
 }
@@ -189,7 +189,6 @@ static inline const char *desk_refusal_text(uint64_t number) {
     case 13: return "the buffer is too short for what is to be written";
     case 14: return "the channel must be 0 (paid) or 1 (incurred)";
     case 15: return "the file has no such accident year";
-    case 16: return "the diagonal of the matrix has a zero";
     case 21: return "no file is open in this session";
     case 22: return "this session has a file open already";
     case 23: return "all 4,096 sweeps are run and the mean still does not pass";

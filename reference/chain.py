@@ -130,11 +130,6 @@ def figures_of(file: File) -> Figures:
     )
 
 
-def has_zero_on_diagonal(matrix: Sequence[Sequence[int]]) -> bool:
-    """Check 16."""
-    return any(matrix[k][k] == 0 for k in range(len(matrix)))
-
-
 def residues_of(figures: Figures, u: Sequence[int], m: int = 1) -> list[int]:
     """A times the vector minus the right-hand side; for the rational vector u/m stated times m."""
     return [

@@ -79,16 +79,13 @@ class Shown:
 
 
 def open_file(state: State, lent: bytes) -> tuple[Opened | Refusal, State]:
-    """22, then 1 to 10 and 16."""
+    """22, then 1 to 10."""
     if state is not EMPTY:
         return Refusal(22), state
     file = layout.read_file(lent)
     if isinstance(file, Refusal):
         return file, state
-    figures = chain.figures_of(file)
-    if chain.has_zero_on_diagonal(figures.matrix):
-        return Refusal(16), state
-    return Opened(), Held(file, figures, file.prior_means, 0)
+    return Opened(), Held(file, chain.figures_of(file), file.prior_means, 0)
 
 
 def judge(state: State, lent: bytes) -> Passed | Fails | Refusal:

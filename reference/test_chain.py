@@ -7,6 +7,7 @@ from math import floor
 from random import Random
 
 import chain
+import layout
 import samples
 from layout import File
 from scales import TICKS_PER_DOUBLING as T
@@ -153,16 +154,27 @@ class Sweeping(unittest.TestCase):
 
 
 class Diagonal(unittest.TestCase):
-    def test_no_accepted_file_has_a_zero_there(self) -> None:
-        # The least weights a file can give: even then each own weight is at least 1.
-        for last in range(1, 16):
-            figures = chain.figures_of(samples.file_at_limits(last, 1))
-            self.assertGreaterEqual(min(figures.own), 1)
-            self.assertFalse(chain.has_zero_on_diagonal(figures.matrix))
+    """Positive for every file that is not refused, with priors and without."""
 
-    def test_a_zero_is_seen(self) -> None:
-        self.assertTrue(chain.has_zero_on_diagonal(((1, 0), (0, 0))))
-        self.assertFalse(chain.has_zero_on_diagonal(((1, 0), (0, 1))))
+    def diagonal(self, file: File) -> list[int]:
+        self.assertEqual(layout.read_file(layout.build_file(file)), file)  # which 1 to 10 let through
+        return [row[k] for k, row in enumerate(chain.figures_of(file).matrix)]
+
+    def test_at_the_limits(self) -> None:
+        for last in range(1, 16):
+            for file in (samples.file_at_limits(last, 0), samples.file_at_limits(last, 1)):
+                self.assertGreater(min(self.diagonal(file)), 0)
+                self.assertGreater(min(self.diagonal(samples.without_priors(file))), 0)
+
+    def test_of_drawn_files(self) -> None:
+        rng = Random(16)
+        for last in [*range(1, 16)] * 4:
+            self.assertGreater(min(self.diagonal(samples.drawn_file(rng, last))), 0)
+            self.assertGreater(min(self.diagonal(samples.drawn_flat_file(rng, last))), 0)
+
+    def test_the_least_by_hand(self) -> None:
+        # A variance of 2^40 has weight 64 and two of them 32: two observations, then one and the ratio.
+        self.assertEqual(self.diagonal(samples.without_priors(samples.file_at_limits(1, 1))), [2 * 64, 64 + 32, 64 + 32])
 
 
 if __name__ == "__main__":

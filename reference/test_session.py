@@ -4,7 +4,6 @@ import struct
 import unittest
 from operator import mul
 from random import Random
-from unittest import mock
 
 import chain
 import damage
@@ -49,13 +48,6 @@ class Open(unittest.TestCase):
             answer, state = session.open_file(before, lent)
             self.assertEqual(answer, Refusal(22, 0))
             self.assertIs(state, before)
-
-    def test_a_zero_on_the_diagonal(self) -> None:
-        """No accepted file has one, so it is put there; the checks 1 to 10 still come first."""
-        zero = chain.Figures(closeness=1, own=(0,), matrix=((0,),), right_hand_side=(0,))
-        with mock.patch.object(chain, "figures_of", return_value=zero):
-            self.assertEqual(session.open_file(EMPTY, F), (Refusal(16, 0), EMPTY))
-            self.assertEqual(session.open_file(EMPTY, damage.SPOIL_FILE[10](F)), (Refusal(10, 78), EMPTY))
 
 
 class Judge(unittest.TestCase):

@@ -25,7 +25,6 @@ class Made(unittest.TestCase):
     def test_every_refusal_number_is_in_the_script(self) -> None:
         lines = self.made["calls/scenes"].printed.decode().splitlines()
         numbers = {int(line.split()[1]) for line in lines if line.startswith("refused")}
-        # 16 needs a zero on the diagonal, which no file that passes 1 to 10 has.
         self.assertEqual(numbers, {*range(1, 16), 21, 22, 23, 24})
         self.assertNotIn("script", lines)
 

@@ -22,6 +22,7 @@ HEADER = (ROOT / "include" / "desk.h").read_text()
 SPECS = ROOT / "crates" / "definitions" / "specs"
 DEFINITIONS = "".join((SPECS / f"{name}.antt").read_text() for name in ("Logarithm", "Refusals", "Sweep", "Machine", "Guarantee"))
 PAGE, LAYOUT = ((SPECS / f"{name}.antt").read_text() for name in ("Page", "Layout"))
+NUMBERS = (ROOT / "crates" / "laws" / "specs" / "Numbers.antt").read_text()
 
 # Where the definitions write the numbers that a refusal's words repeat, in the order of the words.
 WRITTEN = {
@@ -69,7 +70,7 @@ def page_length(last: int) -> int:
 def places() -> dict[int, str]:
     """Every number that the definitions refuse with, and its place in the specification's words."""
     constant = re.findall(r"\) (\d+) (\d+)(?: then|$)", DEFINITIONS, re.MULTILINE)
-    constant += re.findall(r"\brefused (\d+) (\d+)", DEFINITIONS) + re.findall(r"\) (\d+) \(λ k\. (\d+)\)", DEFINITIONS)
+    constant += re.findall(r"\brefused (\d+) (\d+)", DEFINITIONS)
     of_fields = re.findall(r"= fields .* (\d+) \(?\w+At\b|then fields .* (\d+) partAt", DEFINITIONS)
     paid = re.findall(r"\) (\d+) \(paidAt ", DEFINITIONS)
     found = {int(number): place for number, place in constant}
@@ -82,7 +83,7 @@ def numbers_in(words: str) -> list[int]:
 
 
 def listed(text: str) -> list[int]:
-    """The numbers of a text such as `22, 1 to 10, 16`."""
+    """The numbers of a text such as `1 to 10, 14, 15`."""
     runs = re.findall(r"(\d+)(?: to (\d+))?", text)
     return [number for first, last in runs for number in range(int(first), int(last or first) + 1)]
 
@@ -101,6 +102,15 @@ class Refusals(unittest.TestCase):
 
     def test_numbers_and_places_are_the_definitions(self) -> None:
         self.assertEqual({number: place for number, (_, place) in table_of_numbers().items()}, places())
+
+    def test_the_law_lists_the_numbers_of_the_table(self) -> None:
+        listed_by_law = re.search(r"^inTable n = (.+)$", NUMBERS, re.MULTILINE)[1]
+        runs = re.fullmatch(r"within (\d+) (\d+) n \|\| within (\d+) (\d+) n", listed_by_law).groups()
+        self.assertEqual(listed("{} to {}, {} to {}".format(*runs)), [*table_of_numbers()])
+
+    def test_16_is_not_used(self) -> None:
+        self.assertRegex(SPECIFICATION, r"(?m)^\| 15 \|.*\n\| 16 \| is not used \| \|\n\| 21 \|")
+        self.assertNotIn(16, {*table_of_numbers(), *places(), *WORDS})
 
     def test_limits_in_the_words_are_the_definitions(self) -> None:
         for number, words in WORDS.items():

@@ -20,7 +20,6 @@ WORDS = {
     13: "the buffer is too short for what is to be written",
     14: "the channel must be 0 (paid) or 1 (incurred)",
     15: "the file has no such accident year",
-    16: "the diagonal of the matrix has a zero",
     21: "no file is open in this session",
     22: "this session has a file open already",
     23: "all 4,096 sweeps are run and the mean still does not pass",

@@ -30,7 +30,7 @@ class Session:
         self._one_at_a_time = threading.Lock()
 
     def open(self, file: BytesLike) -> None:
-        """Opens a file: the session then holds its figures, its prior means as mean, 0 sweeps. Refused with 22, 1 to 10, 16."""
+        """Opens a file: the session then holds its figures, its prior means as mean, 0 sweeps. Refused with 22, 1 to 10."""
         lent = lent_bytes("file", file)
         with self._one_at_a_time:
             refusal = self._library.desk_open_lent(*self._fields, lent, len(lent))

@@ -17,7 +17,7 @@ use Rattle.definitions.specs.Observations.{Chain, chainOf, ratioVariance
 use Rattle.definitions.specs.Matrix.{Φ, Ψ, Figures, figuresOf, partOf, own, matrix, rightHand, residue, passed, fails, judgement, judgeFrom}
 use Rattle.definitions.specs.Text.{ascii, decimalFrom, signedDecimal, aligned, nameOf, indexOf, lines}
 use Rattle.definitions.specs.Page.{pageLine, pageOf}
-use Rattle.definitions.specs.Machine.{accepted, check16, refused, written, State, empty, holds, Outcome, openCall, sweepCall, writeCall, pageCall}
+use Rattle.definitions.specs.Machine.{accepted, refused, written, State, empty, holds, Outcome, openCall, sweepCall, writeCall, pageCall}
 use Rattle.definitions.specs.Programs.{partLine, sweepText, openText, programText, listed, listing, boardPage}
 
 -- ---- File F, byte by byte, with closeness e: J = 1, σ² and τ² all 2^30, prior variances 2^46, prior means 10T, T, −T
@@ -165,7 +165,7 @@ pub record JointTable : Type 0 where
 
 pub jointTable : JointTable
 unfolding leadingZeros sum total tabFrom logarithm bitsOf highestBit startFrom nextBit nextY weight bigEndian unsigned
-    twosComplement rowStart fields check1 check2 check3 check4 check5 check6 check7 check8 check9 check10 fileCheck check16
+    twosComplement rowStart fields check1 check2 check3 check4 check5 check6 check7 check8 check9 check10 fileCheck
     ratioVariance paidStep incurredStep lastRatio figuresOf partOf own matrix rightHand residue judgeFrom
     ascii decimalFrom signedDecimal aligned nameOf indexOf lines pageLine partLine openCall sweepCall writeCall
     sweepText openText programText listed

@@ -3,32 +3,23 @@
 use Prim.Native.Nat.{ℕ}
 use mathlib.Core.Bool.{Bool, true, false, not, cond}
 use mathlib.Core.List.{List, [], _∷_, _++_}
-use lib.IntN.{ℤ, natAbs}
+use lib.IntN.{ℤ}
 use lib.ListN.{length, drop}
-use lib.Dec.{leb, ltb, eqb}
+use lib.Dec.{leb, ltb}
 use Rattle.definitions.specs.Words.{within, tabFrom, part}
 use Rattle.definitions.specs.Layout.{Bytes, lastYear, parts, priorMean, rowBytes, recordLength, meanOf, recordOf}
-use Rattle.definitions.specs.Refusals.{Check, clear, refuses, _then_, fields, fileCheck, rowCheck, recordCheck}
-use Rattle.definitions.specs.Observations.{chainOf}
-use Rattle.definitions.specs.Matrix.{Figures, figuresOf, matrix, Judgement, judgement, passes}
+use Rattle.definitions.specs.Refusals.{Check, clear, refuses, fileCheck, rowCheck, recordCheck}
+use Rattle.definitions.specs.Matrix.{Figures, figuresOf, Judgement, judgement, passes}
 use Rattle.definitions.specs.Sweep.{Swept, sweeps, sweepLimit}
 use Rattle.definitions.specs.Page.{pageOf, pageLength}
-
--- ---- open's checks: 1 to 10, then 16, a diagonal entry of A that is zero
-
-unfoldable pub check16 : Bytes → Check
-check16 f = fields (λ k. not (eqb (natAbs (matrix (chainOf f) k k)) 0)) 16 (λ k. 0) 0 (parts (lastYear f))
-
-abbrev pub openCheck : Bytes → Check
-openCheck f = fileCheck f then check16 f
 
 abbrev pub isClear : Check → Bool
 isClear clear = true
 isClear (refuses number place) = false
 
--- what open's checks of the input let through
+-- a file that none of 1 to 10 refuses, which are all of open's checks of the input
 abbrev pub accepted : Bytes → Bool
-accepted f = isClear (openCheck f)
+accepted f = isClear (fileCheck f)
 
 -- ---- calls, answers, states
 
@@ -100,7 +91,7 @@ module _ (X : Type 0) (keep : Bytes → X) (figures : X → Figures) where
   openUnless (refuses number place) f = answers empty (refused number place)
 
   unfoldable pub openCall : State X → Bytes → Outcome X
-  openCall empty f = openUnless (openCheck f) f
+  openCall empty f = openUnless (fileCheck f) f
   openCall (holds x μ total) f = answers (holds x μ total) (refused 22 0)
 
   unfoldable pub judgeCall : State X → Bytes → Answer

@@ -1,5 +1,5 @@
 -- The contracts of what C calls follow from the session's, answer by answer.
-use Prim.Native.Nat.{ℕ, _≤_, zero-le}
+use Prim.Native.Nat.{ℕ, zero-le}
 use mathlib.Core.Path.{_≡_, refl, sym, ap, subst, _∙_}
 use mathlib.Core.Logic.{_≢_}
 use mathlib.Core.List.{List}
@@ -46,7 +46,7 @@ use Rattle.telling.specs.Told.{none, told, refusalTold, judgeTold, sweepTold, r
 use Rattle.desk.specs.Calls.{Numbered, Opens, Judges, Sweeps, Writes, Shows, Closes, ShowsRow}
 
 never-0 : {a : Answer} → N.NumberedAnswer a → Numbered a
-never-0 some place e = let none : 1 ≤ 0 = subst N.NumberedAnswer e some in omega arith
+never-0 listed place e = subst N.NumberedAnswer e listed
 
 abbrev itself : D.Figures → D.Figures
 itself F = F
@@ -163,8 +163,7 @@ closed held none-held own A b μ = stateOf-empty _ (λ h. omega (arith, h .holdi
 -- ---- row
 
 row-numbered : (file : Bytes) (channel year place : ℕ) → rowCheck file channel year ≢ refuses 0 place
-row-numbered file channel year place e =
-    let none : 1 ≤ 0 = subst N.Numbered e (N.row-numbered file channel year) .some in omega arith
+row-numbered file channel year place e = subst N.Numbered e (N.row-numbered file channel year) .listed
 
 module _ (file : Bytes) (channel year : ℕ) where
   abbrev shown : RowShown

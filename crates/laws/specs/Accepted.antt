@@ -57,9 +57,9 @@ all-clear : (good : ℕ → Bool) (number : ℕ) (placeOf : ℕ → ℕ) (n : �
     → (k : ℕ) → k < n → T (good k)
 all-clear good number placeOf n h k below = fields-clear good number placeOf 0 n h k zero-le (omega arith)
 
-pub file-clear : (f : Bytes) → isClear (fileCheck f) ≡ true → AcceptedFile f
+pub accepted-file : (f : Bytes) → accepted f ≡ true → AcceptedFile f
 unfolding fileCheck check1 check2 check3 check4 check5 check6 check7 check8 check9 check10
-file-clear f h =
+accepted-file f h =
     let c1 = then-clear {a = check1 f} h in
     let c2 = then-clear {a = check2 f} (c1 .second) in
     let c3 = then-clear {a = check3 f} (c2 .second) in
@@ -80,6 +80,3 @@ file-clear f h =
       amounts = λ c below. within-yes 1 amountLimit (amount f c) (all-clear _ 9 (amountAt J) (2 * cells J) (c9 .first) c below);
       last-amounts = equal-clear (paid f 0 J) (incurred f 0 J) 10 (paidAt J 0 J) (c9 .second);
     }
-
-pub accepted-file : (f : Bytes) → accepted f ≡ true → AcceptedFile f
-accepted-file f h = file-clear f (then-clear {a = fileCheck f} h .first)

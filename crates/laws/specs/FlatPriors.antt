@@ -17,15 +17,14 @@ use Rattle.definitions.specs.Refusals.{Check, unless, _then_, fields, goodPrior
 use Rattle.definitions.specs.Refusals.{check1, check2, check3, check4, check5, check6, check7, check8, check9, check10}
 use Rattle.definitions.specs.Observations.{Chain, chainOf, σ², τ², paidStep, incurredStep}
 use Rattle.definitions.specs.Matrix.{Figures, ownOf, own, targetOf, rightHand, ratiosOfLast}
-use Rattle.definitions.specs.Machine.{empty, openUnless, openCall}
-use Rattle.definitions.specs.Machine.{check16, openCheck, isClear, accepted}
-use Rattle.laws.specs.ClearChecks.{Kept, then-clear, kept-first, kept-second, fields-clear, fields-same}
+use Rattle.definitions.specs.Machine.{empty, openUnless, openCall, isClear, accepted}
+use Rattle.laws.specs.ClearChecks.{Kept, kept-first, kept-second, fields-clear, fields-same}
 use Rattle.laws.specs.Accepted.{within-yes, accepted-file}
 use Rattle.laws.specs.FileBounds.{p-from, q-from, column-p, column-q}
 use Rattle.laws.specs.Ranks.{partOf-phi, partOf-psi}
 use Rattle.laws.specs.WeightLaws.{weight-of-none}
 
--- ---- number 7 by some test of a prior variance; the other numbers, and the checks of open and row, as they are
+-- ---- number 7 by some test of a prior variance; the other numbers, and the checks of row, as they are
 
 module _ (good : ℕ → Bool) where
   abbrev pub check7By : Bytes → Check
@@ -35,9 +34,6 @@ module _ (good : ℕ → Bool) where
   fileCheckBy f =
       check1 f then check2 f then check3 f then check4 f then check5 f then check6 f then check7By f
       then check8 f then check9 f then check10 f
-
-  abbrev pub openCheckBy : Bytes → Check
-  openCheckBy f = fileCheckBy f then check16 f
 
   abbrev pub rowCheckBy : Bytes → ℕ → ℕ → Check
   rowCheckBy f channel year = fileCheckBy f then unless (leb channel 1) 14 0 then unless (leb year (lastYear f)) 15 0
@@ -75,25 +71,23 @@ module _ (f : Bytes) where
       kept-second (check1 f) (kept-second (check2 f) (kept-second (check3 f) (kept-second (check4 f) (kept-second (check5 f)
       (kept-second (check6 f) (kept-first _ check7-kept))))))
 
-  module _ (was : isClear (openCheckBy isPrior f) ≡ true) where
-    open-kept : openCheckBy isPrior f ≡ openCheck f
-    open-kept = kept-first (check16 f) file-kept was
+  module _ (was : isClear (fileCheckBy isPrior f) ≡ true) where
+    same : fileCheckBy isPrior f ≡ fileCheck f
+    same = file-kept was
 
     pub still-accepted : accepted f ≡ true
-    still-accepted = ap isClear (sym open-kept) ∙ was
+    still-accepted = ap isClear (sym same) ∙ was
 
     -- open, of an empty session: the same figures are held, or whatever else is kept of the file, the same mean and the same total
     pub opened-alike : (X : Type 0) (keep : Bytes → X) (figures : X → Figures)
-        → openUnless X keep figures (openCheckBy isPrior f) f ≡ openCall X keep figures empty f
+        → openUnless X keep figures (fileCheckBy isPrior f) f ≡ openCall X keep figures empty f
     unfolding openCall
-    opened-alike X keep figures = ap (λ check. openUnless X keep figures check f) open-kept
+    opened-alike X keep figures = ap (λ check. openUnless X keep figures check f) same
 
     -- row, shown or told: with the same answer for every channel and year
     pub row-alike : (channel year : ℕ) → rowCheckBy isPrior f channel year ≡ rowCheck f channel year
     unfolding rowCheck
-    row-alike channel year =
-        let same : fileCheckBy isPrior f ≡ fileCheck f = file-kept (then-clear {a = fileCheckBy isPrior f} was .first) in
-        ap (λ check. check then unless (leb channel 1) 14 0 then unless (leb year (lastYear f)) 15 0) same
+    row-alike channel year = ap (λ check. check then unless (leb channel 1) 14 0 then unless (leb year (lastYear f)) 15 0) same
 
   -- the two part at a variance of 0 alone: where there is none, every file is let through or refused alike, with number and place
   pub same-but-for-0 : ((k : ℕ) → k < n → priorVariance f k ≢ 0) → fileCheckBy isPrior f ≡ fileCheck f

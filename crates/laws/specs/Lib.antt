@@ -19,7 +19,7 @@
 --   Demand3           DEMAND 3, whole, for every accepted file
 --   Pinned            demand 3 at its very limits, so that no statement of it can be weakened
 --   Diagonal          the matrix is symmetric, its diagonal positive
---   Number16          DOCUMENT 02: what 1 to 10 let through has a positive diagonal; with number 16 behind them open answers alike
+--   Number16          what 1 to 10 let through has a positive diagonal; open answers alike with number 16 behind them, which no call gives
 --   Rows              a row that is shown is inside its file and has an amount
 --   Sizes             the sizes of entries, rows, right-hand side and residues, over limits that are left open
 --   FileBounds        the weights of an accepted file, and that each g is at most the weights whose variances are in its sum
@@ -35,7 +35,7 @@
 --   Pages             every value fits its columns, and two different means never share a page
 --   PinnedPage        both once more, byte by byte and in plain numbers
 --   Printed           what the two programs print for every input: by the answer of their last call, and in at most 4,096 bytes
---   Numbers           a refusal has a number of at least 1
+--   Numbers           a refusal has a number of the table
 pub mod Tables
 pub mod Filled
 pub mod LogarithmBits

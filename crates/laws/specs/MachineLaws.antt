@@ -12,11 +12,11 @@ use lib.ListN.{length, List·getD-eq-default}
 use Rattle.definitions.specs.Words.{within, tabFrom, part}
 use Rattle.definitions.specs.Layout.{Bytes, lastYear, parts, priorMean, recordLength}
 use Rattle.definitions.specs.Page.{pageLength}
-use Rattle.definitions.specs.Refusals.{Check, clear, refuses, partLimit}
+use Rattle.definitions.specs.Refusals.{Check, clear, refuses, fileCheck, partLimit}
 use Rattle.definitions.specs.Matrix.{Figures, figuresOf, passes}
 use Rattle.definitions.specs.Sweep.{sweeps, sweepLimit, oneSweep}
 use Rattle.definitions.specs.Machine.{Call, open-file, judge, sweep, read, page, row, row-told, close}
-use Rattle.definitions.specs.Machine.{State, empty, holds, Outcome, openCheck, isClear, accepted, openUnless}
+use Rattle.definitions.specs.Machine.{State, empty, holds, Outcome, isClear, accepted, openUnless}
 use Rattle.definitions.specs.Machine.{openCall, judgeCall, sweepCall, writeCall, recordIn, pageIn, outcome, outcomes, machine, figuresMachine}
 use Rattle.laws.specs.Accepted.{accepted-file, AcceptedFile}
 use Rattle.laws.specs.Tables.{tab-at, tabFrom-length}
@@ -72,7 +72,7 @@ write-alone size text (holds F μ total) b =
 
 pub machine-on-figures : (st : State Bytes) (call : Call) → figuresMachine (heldState st) call ≡ heldOutcome (machine st call)
 unfolding outcome openCall judgeCall sweepCall
-machine-on-figures empty (open-file f) = held-open (openCheck f) f
+machine-on-figures empty (open-file f) = held-open (fileCheck f) f
 machine-on-figures (holds f μ total) (open-file g) = refl
 machine-on-figures empty (judge r) = refl
 machine-on-figures (holds f μ total) (judge r) = refl
@@ -137,9 +137,9 @@ good-write size text (holds f μ total) b g =
 
 pub good-call : (st : State Bytes) (call : Call) → Good st → Good (machine st call .state)
 unfolding outcome openCall sweepCall
-good-call empty (open-file f) g = by-check (openCheck f) refl
+good-call empty (open-file f) g = by-check (fileCheck f) refl
   where
-    by-check : (c : Check) → openCheck f ≡ c → Good (openUnless Bytes (λ s. s) figuresOf c f .state)
+    by-check : (c : Check) → fileCheck f ≡ c → Good (openUnless Bytes (λ s. s) figuresOf c f .state)
     by-check clear e = let yes-file : accepted f ≡ true = ap isClear e in (yes-file, priors-mean f (accepted-file f yes-file), zero-le)
     by-check (refuses number place) e = tt
 good-call (holds f μ total) (open-file h) g = g

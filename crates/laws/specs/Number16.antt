@@ -1,7 +1,9 @@
--- Document 02's number 16. It refuses a file whose matrix has a zero on the diagonal, and nobody can make one: with every file that 1 to 10
--- let through, flat priors included, each diagonal entry is positive. All of it is said in plain numbers, with no law named.
+-- Document 02's number 16, which is not used. It refused a file whose matrix has a zero on its diagonal, behind 1 to 10, and no file that
+-- these let through has one: each diagonal entry is positive, flat priors included. So open answers with 16 in its order as it does
+-- without, and no call answers 16. All of it is said in plain numbers and with no law named, so that none can be weakened unseen.
 use Prim.Native.Nat.{ℕ, zero, suc, _+_, _*_, _<_}
-use mathlib.Core.Path.{_≡_, refl, ap}
+use mathlib.Core.Path.{_≡_, refl, ap, subst}
+use mathlib.Core.Logic.{_≢_}
 use mathlib.Core.Bool.{true, not}
 use native.Mathlib.Omega.{arith}
 use borrow.Author.Tests.{ne-eqb}
@@ -10,30 +12,33 @@ use lib.IntN.{ℤ, pos, negsuc, natAbs}
 use lib.Signed.{_<ℤ_}
 use Rattle.integers.specs.Linear.{linear, zarith}
 use Rattle.definitions.specs.Layout.{Bytes, lastYear}
-use Rattle.definitions.specs.Refusals.{Check, clear, refuses, _then_, fileCheck}
+use Rattle.definitions.specs.Refusals.{Check, clear, refuses, _then_, fields, fileCheck}
 use Rattle.definitions.specs.Refusals.{check1, check2, check3, check4, check5, check6, check7, check8, check9, check10}
 use Rattle.definitions.specs.Observations.{chainOf}
-use Rattle.definitions.specs.Matrix.{matrix}
-use Rattle.definitions.specs.Machine.{isClear, check16, openCheck}
+use Rattle.definitions.specs.Matrix.{Figures, matrix}
+use Rattle.definitions.specs.Machine.{isClear, State, empty, holds, Outcome, refused, Call, answers, openUnless, openCall, outcome}
 use Rattle.laws.specs.ClearChecks.{fields-good}
-use Rattle.laws.specs.Accepted.{file-clear}
+use Rattle.laws.specs.Accepted.{accepted-file}
 use Rattle.laws.specs.Diagonal.{diagonal-positive}
-
--- ---- shown over 1 to 10 alone
+use Rattle.laws.specs.Numbers.{NumberedAnswer, call-numbered}
 
 module _ (f : Bytes) where
+  -- a file that 1 to 10 let through, whatever its priors
   pub positive :
       check1 f then check2 f then check3 f then check4 f then check5 f then check6 f then check7 f then check8 f then check9 f
       then check10 f ≡ clear
       → (k : ℕ) → k < 2 * lastYear f + 1 → pos 0 <ℤ matrix (chainOf f) k k
   unfolding fileCheck
   positive passed k below =
-      let least = diagonal-positive f (file-clear f (ap isClear passed)) k below in
+      let least = diagonal-positive f (accepted-file f (ap isClear passed)) k below in
       simp linear (omega (zarith, simp linear at least))
 
-  -- 16 therefore refuses none of them
-  check16-clear : fileCheck f ≡ clear → check16 f ≡ clear
-  unfolding fileCheck check16
+  -- number 16: a diagonal entry that is zero, with place 0
+  abbrev pub check16 : Check
+  check16 = fields (λ k. not (eqb (natAbs (matrix (chainOf f) k k)) 0)) 16 (λ k. 0) 0 (2 * lastYear f + 1)
+
+  check16-clear : fileCheck f ≡ clear → check16 ≡ clear
+  unfolding fileCheck
   check16-clear passed =
       fields-good (λ k. not (eqb (natAbs (matrix (chainOf f) k k)) 0)) 16 (λ k. 0) 0 (2 * lastYear f + 1)
       (λ k from to. not-zero (matrix (chainOf f) k k) (positive passed k (omega arith)))
@@ -43,9 +48,25 @@ module _ (f : Bytes) where
       not-zero (pos (suc n)) some = ap not (ne-eqb (suc n) 0 (λ none. omega arith))
       not-zero (negsuc n) some = ap not (ne-eqb (suc n) 0 (λ none. omega arith))
 
-  pub same-check : openCheck f ≡ fileCheck f
+  same-check : fileCheck f then check16 ≡ fileCheck f
   same-check = by-check (fileCheck f) refl
     where
-      by-check : (c : Check) → fileCheck f ≡ c → c then check16 f ≡ c
-      by-check clear passed = check16-clear passed
-      by-check (refuses number place) refused = refl
+      by-check : (c : Check) → fileCheck f ≡ c → c then check16 ≡ c
+      by-check clear e = check16-clear e
+      by-check (refuses number place) e = refl
+
+-- for whatever is kept of a file: the file itself, as the specification's machine does, or its figures, as a session does
+module _ (X : Type 0) (keep : Bytes → X) (figures : X → Figures) where
+  -- open with 16 in its order: 22, then 1 to 10, then 16
+  abbrev pub openWith16 : State X → Bytes → Outcome X
+  openWith16 empty f = openUnless X keep figures (fileCheck f then check16 f) f
+  openWith16 (holds x μ total) f = answers X keep figures (holds x μ total) (refused 22 0)
+
+  -- answer, state and buffer are those of open, which does not have it
+  pub alike-without-16 : (st : State X) (f : Bytes) → openWith16 st f ≡ openCall X keep figures st f
+  unfolding openCall
+  alike-without-16 empty f = ap (λ check. openUnless X keep figures check f) (same-check f)
+  alike-without-16 (holds x μ total) f = refl
+
+  pub never-16 : (st : State X) (call : Call) (place : ℕ) → outcome X keep figures st call .answer ≢ refused 16 place
+  never-16 st call place e = subst NumberedAnswer e (call-numbered X keep figures st call)

@@ -1,21 +1,26 @@
--- A refusal has a number of at least 1, so that 0 is free to say that there is none.
-use Prim.Native.Nat.{ℕ, zero, suc, _≤_}
-use mathlib.Core.Bool.{Bool, true, false, not, cond, _&&_}
+-- The number of a refusal is one of the specification's table: 0 is free to say that there is none, and 16 is not used.
+use Prim.Native.Nat.{ℕ, zero, suc}
+use mathlib.Core.Bool.{Bool, true, false, not, cond, _&&_, _||_}
 use mathlib.Core.List.{List}
-use native.Mathlib.Omega.{arith}
 use lib.IntN.{ℤ}
 use lib.ListN.{length}
-use lib.Dec.{leb, ltb, eqb}
+use lib.Dec.{T, leb, ltb, eqb}
 use Rattle.definitions.specs.Words.{within, part}
 use Rattle.definitions.specs.Layout.{Bytes, lengthWord, version, lastYear, closeness, fileLength, recordLength, paid, incurred, paidAt}
 use Rattle.definitions.specs.Refusals.{yearLimit, closenessLimit, Check, clear, refuses, unless, _then_, fields}
 use Rattle.definitions.specs.Refusals.{check1, check2, check3, check4, check5, check6, check7, check8, check9, check10}
 use Rattle.definitions.specs.Refusals.{fileCheck, rowCheck, recordCheck}
-use Rattle.definitions.specs.Matrix.{Figures, Judgement, passes}
+use Rattle.definitions.specs.Matrix.{Figures, passes}
 use Rattle.definitions.specs.Sweep.{sweeps, sweepLimit}
+use Rattle.definitions.specs.Page.{pageLength}
+use Rattle.definitions.specs.Machine.{Call, open-file, judge, sweep, read, page, row, row-told, close}
 use Rattle.definitions.specs.Machine.{Outcome, Answer, refused, opened, judged, settled, going, written, part-shown, row-is-shown, closed}
-use Rattle.definitions.specs.Machine.{State, empty, holds, check16, openCheck, openUnless, refusedOr}
-use Rattle.definitions.specs.Machine.{openCall, judgeCall, sweepCall, writeCall}
+use Rattle.definitions.specs.Machine.{State, empty, holds, openUnless, refusedOr}
+use Rattle.definitions.specs.Machine.{openCall, judgeCall, sweepCall, writeCall, recordIn, pageIn, outcome}
+
+-- the numbers of the input, and those of the state
+abbrev pub inTable : ℕ → Bool
+inTable n = within 1 15 n || within 21 24 n
 
 -- ---- checks
 
@@ -24,61 +29,62 @@ numberOrOne clear = 1
 numberOrOne (refuses number place) = number
 
 pub record Numbered (c : Check) : Type 0 where
-  pub some : 1 ≤ numberOrOne c
+  pub listed : T (inTable (numberOrOne c))
 
 infixr 30 _and-then_
 _and-then_ : {a b : Check} → Numbered a → Numbered b → Numbered (a then b)
 _and-then_ {a = clear} first second = second
 _and-then_ {a = refuses number place} first second = first
 
-unless-numbered : (t : Bool) (number place : ℕ) → 1 ≤ number → Numbered (unless t number place)
-unless-numbered true number place some = record { some = omega arith }
-unless-numbered false number place some = record { some = some }
+unless-numbered : (t : Bool) (number place : ℕ) → T (inTable number) → Numbered (unless t number place)
+unless-numbered true number place listed = record { listed = tt }
+unless-numbered false number place listed = record { listed = listed }
 
-fields-numbered : (good : ℕ → Bool) (number : ℕ) (placeOf : ℕ → ℕ) (i n : ℕ) → 1 ≤ number → Numbered (fields good number placeOf i n)
+fields-numbered : (good : ℕ → Bool) (number : ℕ) (placeOf : ℕ → ℕ) (i n : ℕ) → T (inTable number)
+    → Numbered (fields good number placeOf i n)
 unfolding fields
-fields-numbered good number placeOf i zero some = record { some = omega arith }
-fields-numbered good number placeOf i (suc n) some =
-    unless-numbered (good i) number (placeOf i) some and-then fields-numbered good number placeOf (suc i) n some
+fields-numbered good number placeOf i zero listed = record { listed = tt }
+fields-numbered good number placeOf i (suc n) listed =
+    unless-numbered (good i) number (placeOf i) listed and-then fields-numbered good number placeOf (suc i) n listed
 
 -- check 1, of a file and of a record
 length-numbered : (least : ℕ) (b : Bytes) → Numbered (unless (leb least (length b) && eqb (lengthWord b) (length b)) 1 0)
-length-numbered least b = unless-numbered (leb least (length b) && eqb (lengthWord b) (length b)) 1 0 (omega arith)
+length-numbered least b = unless-numbered (leb least (length b) && eqb (lengthWord b) (length b)) 1 0 tt
 
 file-numbered : (f : Bytes) → Numbered (fileCheck f)
 unfolding fileCheck check1 check2 check3 check4 check5 check6 check7 check8 check9 check10
 file-numbered f =
     let J : ℕ = lastYear f in
     length-numbered 10 f
-    and-then unless-numbered (eqb (version f) 1) 2 4 (omega arith)
-    and-then unless-numbered (within 1 yearLimit J) 3 5 (omega arith)
-    and-then unless-numbered (eqb (length f) (fileLength J)) 4 0 (omega arith)
-    and-then unless-numbered (within 1 closenessLimit (closeness f)) 5 6 (omega arith)
-    and-then fields-numbered _ 6 _ 0 _ (omega arith)
-    and-then fields-numbered _ 7 _ 0 _ (omega arith)
-    and-then fields-numbered _ 8 _ 0 _ (omega arith)
-    and-then fields-numbered _ 9 _ 0 _ (omega arith)
-    and-then unless-numbered (eqb (paid f 0 J) (incurred f 0 J)) 10 (paidAt J 0 J) (omega arith)
+    and-then unless-numbered (eqb (version f) 1) 2 4 tt
+    and-then unless-numbered (within 1 yearLimit J) 3 5 tt
+    and-then unless-numbered (eqb (length f) (fileLength J)) 4 0 tt
+    and-then unless-numbered (within 1 closenessLimit (closeness f)) 5 6 tt
+    and-then fields-numbered _ 6 _ 0 _ tt
+    and-then fields-numbered _ 7 _ 0 _ tt
+    and-then fields-numbered _ 8 _ 0 _ tt
+    and-then fields-numbered _ 9 _ 0 _ tt
+    and-then unless-numbered (eqb (paid f 0 J) (incurred f 0 J)) 10 (paidAt J 0 J) tt
 
 pub row-numbered : (f : Bytes) (channel year : ℕ) → Numbered (rowCheck f channel year)
 unfolding rowCheck
 row-numbered f channel year =
     file-numbered f
-    and-then unless-numbered (leb channel 1) 14 0 (omega arith)
-    and-then unless-numbered (leb year (lastYear f)) 15 0 (omega arith)
+    and-then unless-numbered (leb channel 1) 14 0 tt
+    and-then unless-numbered (leb year (lastYear f)) 15 0 tt
 
 record-numbered : (J : ℕ) (r : Bytes) → Numbered (recordCheck J r)
 unfolding recordCheck
 record-numbered J r =
     length-numbered 5 r
-    and-then unless-numbered (eqb (version r) 1) 2 4 (omega arith)
-    and-then unless-numbered (eqb (length r) (recordLength J)) 4 0 (omega arith)
-    and-then fields-numbered _ 11 _ 0 _ (omega arith)
+    and-then unless-numbered (eqb (version r) 1) 2 4 tt
+    and-then unless-numbered (eqb (length r) (recordLength J)) 4 0 tt
+    and-then fields-numbered _ 11 _ 0 _ tt
 
 -- ---- answers
 
 abbrev pub NumberedAnswer : Answer → Type 0
-NumberedAnswer (refused number place) = 1 ≤ number
+NumberedAnswer (refused number place) = T (inTable number)
 NumberedAnswer opened = Unit {0}
 NumberedAnswer (judged j) = Unit {0}
 NumberedAnswer (settled total) = Unit {0}
@@ -87,6 +93,10 @@ NumberedAnswer written = Unit {0}
 NumberedAnswer (part-shown b) = Unit {0}
 NumberedAnswer row-is-shown = Unit {0}
 NumberedAnswer closed = Unit {0}
+
+refused-or : (c : Check) (a : Answer) → Numbered c → NumberedAnswer a → NumberedAnswer (refusedOr c a)
+refused-or clear a h listed = listed
+refused-or (refuses number place) a h listed = h .listed
 
 settled-or-going : (b : Bool) (total : ℕ) → NumberedAnswer (cond b (settled total) (going total))
 settled-or-going true total = tt
@@ -99,36 +109,43 @@ either false x y first second = second
 
 module _ (X : Type 0) (keep : Bytes → X) (figures : X → Figures) where
   pub open-numbered : (st : State X) (f : Bytes) → NumberedAnswer (openCall X keep figures st f .answer)
-  unfolding openCall check16
-  open-numbered empty f = by-check (openCheck f) (file-numbered f and-then fields-numbered _ 16 _ 0 _ (omega arith))
+  unfolding openCall
+  open-numbered empty f = by-check (fileCheck f) (file-numbered f)
     where
       by-check : (c : Check) → Numbered c → NumberedAnswer (openUnless X keep figures c f .answer)
       by-check clear h = tt
-      by-check (refuses number place) h = h .some
-  open-numbered (holds x μ total) f = omega arith
+      by-check (refuses number place) h = h .listed
+  open-numbered (holds x μ total) f = tt
 
   pub judge-numbered : (st : State X) (r : Bytes) → NumberedAnswer (judgeCall X keep figures st r)
   unfolding judgeCall
-  judge-numbered empty r = omega arith
-  judge-numbered (holds x μ total) r = by-check (recordCheck (figures x .last) r) _ (record-numbered (figures x .last) r)
-    where
-      by-check : (c : Check) (j : Judgement) → Numbered c → NumberedAnswer (refusedOr c (judged j))
-      by-check clear j h = tt
-      by-check (refuses number place) j h = h .some
+  judge-numbered empty r = tt
+  judge-numbered (holds x μ total) r = refused-or (recordCheck (figures x .last) r) _ (record-numbered (figures x .last) r) tt
 
   pub sweep-numbered : (st : State X) (n : ℕ) → NumberedAnswer (sweepCall X keep figures st n .answer)
   unfolding sweepCall
-  sweep-numbered empty n = omega arith
+  sweep-numbered empty n = tt
   sweep-numbered (holds x μ total) n =
       let after : Bool = passes (figures x) (part (sweeps (figures x) n μ total .mean)) in
-      either (not (within 1 sweepLimit n)) _ _ (omega arith)
+      either (not (within 1 sweepLimit n)) _ _ tt
       (either (passes (figures x) (part μ)) _ _ tt
-      (either (leb sweepLimit total) _ _ (omega arith) (settled-or-going after _)))
+      (either (leb sweepLimit total) _ _ tt (settled-or-going after _)))
 
   pub write-numbered : (size : ℕ → ℕ) (text : Figures → List ℤ → Bytes) (st : State X) (b : Bytes)
       → NumberedAnswer (writeCall X keep figures size text st b .answer)
   unfolding writeCall
-  write-numbered size text empty b = omega arith
+  write-numbered size text empty b = tt
   write-numbered size text (holds x μ total) b =
-      either (not (passes (figures x) (part μ))) _ _ (omega arith)
-      (either (ltb (length b) (size (figures x .last))) _ _ (omega arith) tt)
+      either (not (passes (figures x) (part μ))) _ _ tt
+      (either (ltb (length b) (size (figures x .last))) _ _ tt tt)
+
+  pub call-numbered : (st : State X) (call : Call) → NumberedAnswer (outcome X keep figures st call .answer)
+  unfolding outcome
+  call-numbered st (open-file f) = open-numbered st f
+  call-numbered st (judge r) = judge-numbered st r
+  call-numbered st (sweep n) = sweep-numbered st n
+  call-numbered st (read b) = write-numbered recordLength recordIn st b
+  call-numbered st (page b) = write-numbered pageLength pageIn st b
+  call-numbered st (row f channel year) = tt
+  call-numbered st (row-told f channel year) = refused-or (rowCheck f channel year) row-is-shown (row-numbered f channel year) tt
+  call-numbered st close = tt

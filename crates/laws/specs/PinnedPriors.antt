@@ -16,7 +16,7 @@ use Rattle.definitions.specs.Observations.{Chain, chainOf, σ², τ², paidStep
 use Rattle.definitions.specs.Matrix.{Figures, own, rightHand, ratiosOfLast}
 use Rattle.definitions.specs.Refusals.{Check, unless, fields, _then_, goodPriorVariance, fileCheck, rowCheck}
 use Rattle.definitions.specs.Refusals.{check1, check2, check3, check4, check5, check6, check8, check9, check10}
-use Rattle.definitions.specs.Machine.{empty, openUnless, openCall, check16, isClear, accepted}
+use Rattle.definitions.specs.Machine.{empty, openUnless, openCall, isClear, accepted}
 use Rattle.laws.specs.Accepted.{Within, prior-yes}
 use Rattle.laws.specs.FlatPriors.{still-accepted, opened-alike, row-alike, same-but-for-0}
 use Rattle.laws.specs.FlatPriors.{own-of-phi, own-of-psi, right-hand-of-phi, right-hand-of-psi, observed-phi, observed-psi}
@@ -47,12 +47,12 @@ module _ (f : Bytes) where
       then fields (λ k. within 262144 70368744177664 (priorVariance f k)) 7 (priorVarianceAt J) 0 (2 * J + 1)
       then check8 f then check9 f then check10 f
 
-  module _ (was : isClear (with-priors then check16 f) ≡ true) where
+  module _ (was : isClear with-priors ≡ true) where
     pub accepted-still : accepted f ≡ true
     accepted-still = still-accepted f was
 
     pub opened-still : (X : Type 0) (keep : Bytes → X) (figures : X → Figures)
-        → openUnless X keep figures (with-priors then check16 f) f ≡ openCall X keep figures empty f
+        → openUnless X keep figures with-priors f ≡ openCall X keep figures empty f
     opened-still = opened-alike f was
 
     pub row-still : (channel year : ℕ)

@@ -10,12 +10,12 @@ use lib.IntN.{ℤ, natAbs}
 use lib.ListN.{length, length-append}
 use Rattle.definitions.specs.Words.{tabFrom, part}
 use Rattle.definitions.specs.Layout.{Bytes, lastYear, parts, priorMean}
-use Rattle.definitions.specs.Refusals.{Check, clear, refuses, yearLimit, partLimit}
+use Rattle.definitions.specs.Refusals.{Check, clear, refuses, fileCheck, yearLimit, partLimit}
 use Rattle.definitions.specs.Matrix.{Part, partOf, Figures, figuresOf, passes}
 use Rattle.definitions.specs.Sweep.{Swept, sweeps}
 use Rattle.definitions.specs.Text.{ascii, space, lineFeed, moreDigits, decimal, signedDecimal, nameOf, indexOf, lines}
 use Rattle.definitions.specs.Machine.{Answer, refused, opened, judged, settled, going, written, part-shown, row-is-shown, closed}
-use Rattle.definitions.specs.Machine.{State, empty, holds, Outcome, openCheck, isClear, accepted, openUnless, openCall, sweepCall}
+use Rattle.definitions.specs.Machine.{State, empty, holds, Outcome, isClear, accepted, openUnless, openCall, sweepCall}
 use Rattle.definitions.specs.Programs.{countLine, partLine, refusalLine, spentLine, Show, printed, shown, sweepText, openText, programText}
 use Rattle.definitions.specs.Programs.{listed, listing}
 use Rattle.laws.specs.Accepted.{accepted-file}
@@ -119,12 +119,12 @@ module _ (given : Bytes) where
 
     pub swept-ends : opened ≡ opening .answer → EndsWith sweeping
     unfolding openCall sweepCall sweepText
-    swept-ends e = by-check (openCheck given) refl e (λ show. by-open show e)
+    swept-ends e = by-check (fileCheck given) refl e (λ show. by-open show e)
       where
         opens : Check → Outcome Figures
         opens c = openUnless Figures figuresOf (λ G. G) c given
 
-        by-check : (c : Check) → openCheck given ≡ c → opened ≡ opens c .answer
+        by-check : (c : Check) → fileCheck given ≡ c → opened ≡ opens c .answer
             → Prints (sweepingFrom (opens c .state)) → EndsWith (sweepingFrom (opens c .state))
         by-check clear cleared told text =
             by-tests (ap isClear cleared) (passes F (part priors)) (passes F (part (end .mean))) refl refl text
@@ -141,17 +141,17 @@ module _ (given : Bytes) where
   unfolding openCall
   ending = by-length (decLe 2807 (length given))
     where
-      answered : {c : Check} → openCheck given ≡ c → openUnless Figures figuresOf (λ G. G) c given .answer ≡ opening .answer
+      answered : {c : Check} → fileCheck given ≡ c → openUnless Figures figuresOf (λ G. G) c given .answer ≡ opening .answer
       answered e = ap (λ c. openUnless Figures figuresOf (λ G. G) c given .answer) (sym e)
 
-      by-check : length given < 2807 → (c : Check) → openCheck given ≡ c → Ending
+      by-check : length given < 2807 → (c : Check) → fileCheck given ≡ c → Ending
       by-check short clear e = record { state = sweeping .state; answer = sweeping .answer; ends = swept-ends short (answered e) }
       by-check short (refuses number place) e =
           record { state = empty; answer = refused number place; ends = refused-text short (answered e) }
 
       by-length : Dec (2807 ≤ length given) → Ending
       by-length (yes long) = record { state = empty; answer = refused 1 0; ends = long-text long }
-      by-length (no short) = by-check (omega (arith, short)) (openCheck given) refl
+      by-length (no short) = by-check (omega (arith, short)) (fileCheck given) refl
 
 -- ---- how long it is
 

@@ -12,7 +12,7 @@ use Rattle.definitions.specs.Refusals.{Check, clear, refuses, unless, fileCheck
 use Rattle.definitions.specs.Machine.{isClear, partUnless, rowPart}
 use Rattle.laws.specs.Cells.{row-in-block, blocks-end}
 use Rattle.laws.specs.ClearChecks.{then-clear, unless-clear}
-use Rattle.laws.specs.Accepted.{AcceptedFile, file-clear}
+use Rattle.laws.specs.Accepted.{AcceptedFile, accepted-file}
 
 -- a row is inside its block, and the block is the first or the second
 row-ends : (J channel year : ℕ) → channel ≤ 1 → year ≤ J → rowAt J channel year + rowLength J year ≤ fileLength J
@@ -27,7 +27,7 @@ module _ (f : Bytes) (channel year : ℕ) (shown : rowCheck f channel year ≡ c
       let both = then-clear {a = unless (leb channel 1) 14 0} (file .second) in (
         leb→le channel 1 (unless-clear (leb channel 1) 14 0 (both .first)),
         leb→le year (lastYear f) (unless-clear (leb year (lastYear f)) 15 0 (both .second)),
-        file-clear f (file .first),
+        accepted-file f (file .first),
       )
 
   pub row-inside : rowAt (lastYear f) channel year + rowLength (lastYear f) year ≤ length f

@@ -1,5 +1,4 @@
 pub mod Opens
-pub mod Diagonal
 pub mod OpenLaws
 pub mod OpenCall
 pub mod Pinned

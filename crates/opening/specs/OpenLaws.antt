@@ -4,9 +4,9 @@ use mathlib.Core.Path.{_≡_, refl}
 use native.Mathlib.Omega.{arith}
 use Rattle.definitions.specs.Words.{tabFrom}
 use Rattle.definitions.specs.Layout.{Bytes, lastYear, parts, priorMean}
-use Rattle.definitions.specs.Refusals.{clear, refuses}
+use Rattle.definitions.specs.Refusals.{clear, refuses, fileCheck}
 use Rattle.definitions.specs.Matrix as D
-use Rattle.definitions.specs.Machine.{openCheck, openCall}
+use Rattle.definitions.specs.Machine.{openCall}
 use Rattle.chain.specs.Arrays.{figuresOf, meanOf}
 use Rattle.holding.specs.State.{Held, Fits}
 use Rattle.holding.specs.StateLaws.{stateOf-held, stateOf-empty}
@@ -26,7 +26,7 @@ module _ (s : Held) (file : Bytes) where
     same = λ number place _. refl;
   }
 
-  pub opens-refused : ¬ Fits s → (number place : ℕ) → openCheck file ≡ refuses number place
+  pub opens-refused : ¬ Fits s → (number place : ℕ) → fileCheck file ≡ refuses number place
       → Opens s file (Refused number place) s
   unfolding openCall
   opens-refused h number place c = let e = stateOf-empty s h in record {
@@ -35,7 +35,7 @@ module _ (s : Held) (file : Bytes) where
     same = λ _ _ _. refl;
   }
 
-  pub opens-done : ¬ Fits s → openCheck file ≡ clear → (t : Held) → Fits t → figuresOf (t .figures) ≡ D.figuresOf file
+  pub opens-done : ¬ Fits s → fileCheck file ≡ clear → (t : Held) → Fits t → figuresOf (t .figures) ≡ D.figuresOf file
       → meanOf (t .figures .last) (t .mean) ≡ tabFrom 0 (parts (lastYear file)) (priorMean file) → t .total ≡ 0
       → Opens s file Opened t
   unfolding openCall

@@ -1,8 +1,6 @@
 // The call `open`, over a session whose arrays are lent: the figures of the file and its prior means are held from then on.
 ghost use Rattle.holding.specs.State.{heldIn};
-ghost use Rattle.opening.specs.Diagonal.{OfDiagonal, DiagonalOf};
 ghost use Rattle.opening.specs.Opens.{Opens};
-use chain::judge::size;
 use figures::figures_in;
 use holding::bounds::is_open;
 use layout::checks::Check;
@@ -16,23 +14,7 @@ pub enum OpenAnswer {
     Refused(u64, usize),
 }
 
-// 16: a diagonal entry that is zero.
-fn check_diagonal(last: usize, matrix: &[i64; 961]) -> Check
-    requires { ⌜ OfDiagonal last ⌝ }
-    ensures { λ r. ⌜ DiagonalOf last (now (matrix .entry)) r ⌝ }
-{
-    let count = 2 * last + 1;
-    let mut k = 0usize;
-    while k < count {
-        if size(matrix[31 * k + k]) == 0 {
-            return Check::Refuses(16, 0);
-        }
-        k += 1;
-    }
-    Check::Clear
-}
-
-// 22, then 1 to 10, then 16. `held` has J, the closeness and the sweeps run since open.
+// 22, then 1 to 10. `held` has J, the closeness and the sweeps run since open.
 pub fn open_lent<'a>(
     held: &'a mut [u64; 3],
     own: &'a mut [u64; 31],
@@ -63,10 +45,6 @@ pub fn open_lent<'a>(
     }
     figures_in(own, matrix, right_hand, mean, file);
     let last = last_year(file);
-    let diagonal = check_diagonal(last as usize, matrix);
-    if let Check::Refuses(number, place) = diagonal {
-        return OpenAnswer::Refused(number, place);
-    }
     let numbers = [last as u64, closeness_of(file), 0];
     *held = numbers;
     OpenAnswer::Opened

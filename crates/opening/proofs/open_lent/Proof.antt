@@ -1,8 +1,6 @@
--- `open_lent` meets its contract: after 22 and the checks of the file, its figures and the prior means are held. Check 16
--- refuses none of the files that come to it.
+-- `open_lent` meets its contract: after 22 and the checks of the file, its figures and the prior means are held.
 use Prim.Native.Nat.{ℕ}
-use mathlib.Core.Path.{_≡_, sym, ap, subst, subst₂, _∙_}
-use native.Mathlib.Omega.{arith}
+use mathlib.Core.Path.{_≡_, sym, ap, subst₂, _∙_}
 use borrow.Author.Needs.{needs}
 use denote.Ref.{now}
 use Rattle.definitions.specs.Refusals.{clear, fileCheck}
@@ -12,9 +10,8 @@ use Rattle.layout.specs.CheckLaws.{passed, file-whole}
 use Rattle.chain.specs.declared.arrays.Figures.{Figures}
 use Rattle.chain.specs.Arrays.{figuresAt, figuresOf}
 use Rattle.holding.specs.State.{Held, Fits, heldIn}
-use Rattle.opening.specs.Diagonal.{DiagonalOf}
 use Rattle.opening.specs.OpenLaws.{opens-taken, opens-refused}
-use Rattle.opening.specs.OpenCall.{file-accepted, open-refuses, few-years, diagonal-clear, done, refuses-clear}
+use Rattle.opening.specs.OpenCall.{file-accepted, done}
 use Rattle.opening.proofs.open_lent.Statement.{statement}
 use Rattle.opening.proofs.open_lent.Tie as tie
 
@@ -55,7 +52,7 @@ returns-2 : tie.Need-returns-2
 returns-2 c =
     let tested = c .before .before .before in
     opens-refused _ _ (closed (tested .before)) _ _
-    (open-refuses _ _ _ (sym (tested .check-file .ensures) ∙ ap told (c .before .checked .given .1)))
+    (sym (tested .check-file .ensures) ∙ ap told (c .before .checked .given .1))
 
 enum-told : tie.Need-enum-told
 enum-told c = search needs
@@ -79,41 +76,15 @@ module _ (c : tie.After-figures-in) where
 last-year-requires : tie.Need-last-year-requires
 last-year-requires c κs = search needs
 
-cast-check-diagonal : tie.Need-cast-check-diagonal
-cast-check-diagonal c = search needs
+cast-t15 : tie.Need-cast-t15
+cast-t15 c = search needs
 
-check-diagonal-requires : tie.Need-check-diagonal-requires
-check-diagonal-requires c κs =
-    let dated = c .before in
-    let filled = dated .before in
-    let few = few-years _ (clear-file (cleared filled)) _ (filled .figures-in .ensures .0) in
-    record { few = omega (arith, dated .last-year .ensures, few) }
-
-enum-known-diagonal : tie.Need-enum-known-diagonal
-enum-known-diagonal c = search needs
+closeness-of-requires : tie.Need-closeness-of-requires
+closeness-of-requires c κs = file-whole _ (clear-file (cleared (c .before)))
 
 returns-3 : tie.Need-returns-3
 returns-3 c =
-    let tested = c .before .before .before in
-    let dated = tested .before .before in
-    let filled = dated .before in
-    let matrix = filled .figures-in .last .1 .0 in
-    absurd (refuses-clear (sym (ap told (c .before .diagonal .given .1))
-    ∙ diagonal-clear _ (clear-file (cleared filled)) _ (filled .figures-in .ensures .0)
-    (subst (λ n. DiagonalOf n matrix (tested .check-diagonal .result)) (dated .last-year .ensures) (tested .check-diagonal .ensures))))
-
-enum-told-2 : tie.Need-enum-told-2
-enum-told-2 c = search needs
-
-cast-t18 : tie.Need-cast-t18
-cast-t18 c = search needs
-
-closeness-of-requires : tie.Need-closeness-of-requires
-closeness-of-requires c κs = file-whole _ (clear-file (cleared (c .before .before .before .before .before)))
-
-returns-4 : tie.Need-returns-4
-returns-4 c =
-    let dated = c .before .before .before .before .before in
+    let dated = c .before in
     let filled = dated .before in
     let fresh = cleared filled .before .before .before in
     let same = subst₂ (λ J e. figuresOf (figures-with filled J e) ≡ D.figuresOf (now (start fresh .args .file)))
@@ -136,11 +107,6 @@ open-lent-spec =
     enum-told
     figures-in-requires
     last-year-requires
-    cast-check-diagonal
-    check-diagonal-requires
-    enum-known-diagonal
-    returns-3
-    enum-told-2
-    cast-t18
+    cast-t15
     closeness-of-requires
-    returns-4)
+    returns-3)
