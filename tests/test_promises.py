@@ -62,7 +62,7 @@ PINNED = {
     "laws/PinnedPage": "page-bytes name-on-page index-on-page ticks-on-page weight-on-page spaces-on-page never-shared",
     "laws/PinnedPriors":
         "prior-variance-taken accepted-still opened-still row-still same-with-priors phi-alone psi-alone phi-owned psi-owned",
-    "laws/Number16": "positive check16 openWith16 alike-without-16 never-16",
+    "laws/Number16": "oneToTen accepted-exactly positive check16 openWith16 alike-without-16 never-16",
     "row_starts/Pinned": "sixteen cells-counted none-counted",
     "holding/Pinned": "open-file reached-open",
     "opening/Pinned": "open-refused opened-holds as-with-16",

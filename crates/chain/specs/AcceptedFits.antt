@@ -11,7 +11,7 @@ use Rattle.definitions.specs.Words.{tabFrom, part}
 use Rattle.definitions.specs.Layout.{Bytes, lastYear, parts}
 use Rattle.definitions.specs.Observations.{chainOf}
 use Rattle.definitions.specs.Matrix.{own, matrix, rightHand, figuresOf, entry}
-use Rattle.definitions.specs.Machine.{accepted}
+use Rattle.definitions.specs.Refusals.{accepted}
 use Rattle.laws.specs.Accepted.{AcceptedFile, accepted-file}
 use Rattle.laws.specs.Diagonal.{diagonal-positive}
 use Rattle.laws.specs.FileLimits.{file-limits, entry-fits, diagonal-fits, right-hand-fits}

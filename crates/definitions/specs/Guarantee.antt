@@ -8,11 +8,10 @@ use lib.IntN.{ℤ, pos, natAbs, _+ℤ_, _-ℤ_, _*ℤ_}
 use lib.Signed.{_≤ℤ_, _<ℤ_}
 use Rattle.integers.specs.Summation.{sum, total}
 use Rattle.definitions.specs.Layout.{Bytes, lastYear, closeness, parts}
-use Rattle.definitions.specs.Refusals.{partLimit}
+use Rattle.definitions.specs.Refusals.{partLimit, accepted}
 use Rattle.definitions.specs.Observations.{chainOf}
 use Rattle.definitions.specs.Loss.{Vector, weighted, loss, lossTimes}
 use Rattle.definitions.specs.Matrix.{own, residueTimes, figuresOf, passes}
-use Rattle.definitions.specs.Machine.{accepted}
 
 module _ (f : Bytes) where
   abbrev pub partsOf : ℕ

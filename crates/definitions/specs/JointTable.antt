@@ -13,11 +13,12 @@ use Rattle.definitions.specs.Logarithm.{logarithm, bitsOf, highestBit, s
 use Rattle.definitions.specs.Weight.{weight}
 use Rattle.definitions.specs.Layout.{Bytes, bigEndian, unsigned, twosComplement, rowStart}
 use Rattle.definitions.specs.Refusals.{refuses, fields, check1, check2, check3, check4, check5, check6, check7, check8, check9, check10, fileCheck}
+use Rattle.definitions.specs.Refusals.{accepted}
 use Rattle.definitions.specs.Observations.{Chain, chainOf, ratioVariance, paidStep, incurredStep, lastRatio}
 use Rattle.definitions.specs.Matrix.{Φ, Ψ, Figures, figuresOf, partOf, own, matrix, rightHand, residue, passed, fails, judgement, judgeFrom}
 use Rattle.definitions.specs.Text.{ascii, decimalFrom, signedDecimal, aligned, nameOf, indexOf, lines}
 use Rattle.definitions.specs.Page.{pageLine, pageOf}
-use Rattle.definitions.specs.Machine.{accepted, refused, written, State, empty, holds, Outcome, openCall, sweepCall, writeCall, pageCall}
+use Rattle.definitions.specs.Machine.{refused, written, State, empty, holds, Outcome, openCall, sweepCall, writeCall, pageCall}
 use Rattle.definitions.specs.Programs.{partLine, sweepText, openText, programText, listed, listing, boardPage}
 
 -- ---- File F, byte by byte, with closeness e: J = 1, σ² and τ² all 2^30, prior variances 2^46, prior means 10T, T, −T

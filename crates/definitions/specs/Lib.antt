@@ -4,7 +4,7 @@
 --   Weight         the weight of a variance
 --   Layout         the file and the mean record: fields, places, lengths
 --   RowStarts      the constant table of row starts
---   Refusals       the checks 1 to 11, 14 and 15, in number order, with their places
+--   Refusals       the checks 1 to 11, 14 and 15, in number order, with their places; which files are accepted
 --   Observations   weights p, q, s, t, g and observations x, z, y of a file
 --   Loss           the loss of u/m times m²
 --   Matrix         own weight, precision matrix, right-hand side, residue; passed or the first failing part

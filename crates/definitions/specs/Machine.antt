@@ -1,7 +1,7 @@
 -- Specification, "The calls" and "Refusals", in their orders: for every state and call the answer,
 -- and the state and the lent buffer afterwards. A refused call leaves both as they were.
 use Prim.Native.Nat.{ℕ}
-use mathlib.Core.Bool.{Bool, true, false, not, cond}
+use mathlib.Core.Bool.{not, cond}
 use mathlib.Core.List.{List, [], _∷_, _++_}
 use lib.IntN.{ℤ}
 use lib.ListN.{length, drop}
@@ -12,14 +12,6 @@ use Rattle.definitions.specs.Refusals.{Check, clear, refuses, fileCheck,
 use Rattle.definitions.specs.Matrix.{Figures, figuresOf, Judgement, judgement, passes}
 use Rattle.definitions.specs.Sweep.{Swept, sweeps, sweepLimit}
 use Rattle.definitions.specs.Page.{pageOf, pageLength}
-
-abbrev pub isClear : Check → Bool
-isClear clear = true
-isClear (refuses number place) = false
-
--- a file that none of 1 to 10 refuses, which are all of open's checks of the input
-abbrev pub accepted : Bytes → Bool
-accepted f = isClear (fileCheck f)
 
 -- ---- calls, answers, states
 

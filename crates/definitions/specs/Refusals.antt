@@ -25,6 +25,10 @@ abbrev pub _then_ : Check → Check → Check
 clear then next = next
 refuses number place then next = refuses number place
 
+abbrev pub isClear : Check → Bool
+isClear clear = true
+isClear (refuses number place) = false
+
 -- the fields i, i + 1, …, n of them: the first that is not good is refused
 unfoldable pub fields : (ℕ → Bool) → ℕ → (ℕ → ℕ) → ℕ → ℕ → Check
 fields good number placeOf i zero = clear
@@ -98,6 +102,10 @@ check10 s = unless (eqb (paid s 0 (lastYear s)) (incurred s 0 (lastYear s))) 10 
 unfoldable pub fileCheck : Bytes → Check
 fileCheck s =
     check1 s then check2 s then check3 s then check4 s then check5 s then check6 s then check7 s then check8 s then check9 s then check10 s
+
+-- a file that none of them refuses, and these are all of open's checks of its input
+abbrev pub accepted : Bytes → Bool
+accepted s = isClear (fileCheck s)
 
 -- ---- the row: after 1 to 10, channel (14) and year (15)
 

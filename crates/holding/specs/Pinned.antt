@@ -7,7 +7,8 @@ use mathlib.Core.List.{List}
 use lib.IntN.{ℤ}
 use Rattle.definitions.specs.Layout.{Bytes}
 use Rattle.definitions.specs.Matrix as D
-use Rattle.definitions.specs.Machine.{accepted, empty, holds, Call}
+use Rattle.definitions.specs.Refusals.{accepted}
+use Rattle.definitions.specs.Machine.{empty, holds, Call}
 use Rattle.laws.specs.MachineLaws.{after}
 use Rattle.chain.specs.Arrays.{figuresOf, meanOf}
 use Rattle.holding.specs.State.{Held, stateOf, HoldsFile}

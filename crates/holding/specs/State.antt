@@ -9,11 +9,11 @@ use lib.IntN.{ℤ, pos, natAbs}
 use lib.ListN.{getD}
 use Rattle.definitions.specs.Words.{part}
 use Rattle.definitions.specs.Layout.{Bytes, parts}
-use Rattle.definitions.specs.Refusals.{yearLimit, closenessLimit, partLimit}
+use Rattle.definitions.specs.Refusals.{yearLimit, closenessLimit, partLimit, accepted}
 use Rattle.definitions.specs.Matrix.{entry}
 use Rattle.definitions.specs.Matrix as D
 use Rattle.definitions.specs.Sweep.{sweepLimit}
-use Rattle.definitions.specs.Machine.{State, empty, holds, accepted}
+use Rattle.definitions.specs.Machine.{State, empty, holds}
 use Rattle.chain.specs.declared.arrays.Figures.{Figures}
 use Rattle.chain.specs.Arrays.{figuresAt, figuresOf, meanOf}
 use Rattle.chain.specs.Fitting.{Fitting, Inside, entryLimit, diagonalLimit, ownLimit, rightHandLimit}

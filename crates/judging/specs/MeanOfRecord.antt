@@ -9,8 +9,7 @@ use lib.Dec.{leb→le}
 use Rattle.definitions.specs.Words.{part}
 use Rattle.definitions.specs.Layout as D
 use Rattle.definitions.specs.Layout.{Bytes, signed, partAt, parts}
-use Rattle.definitions.specs.Refusals.{partLimit, goodPart, clear, recordCheck}
-use Rattle.definitions.specs.Machine.{isClear}
+use Rattle.definitions.specs.Refusals.{partLimit, goodPart, clear, recordCheck, isClear}
 use Rattle.laws.specs.Tables.{tab-at, tab-cong}
 use Rattle.laws.specs.ClearChecks.{fields-clear}
 use Rattle.layout.specs.Checks.{recordHead}

@@ -11,10 +11,9 @@ use lib.Dec.{T, leb, eqb, leb→le, eqb→eq}
 use Rattle.definitions.specs.Words.{within}
 use Rattle.definitions.specs.Layout.{Bytes, lastYear, closeness, parts, cells, varianceOf, priorMean, priorVariance}
 use Rattle.definitions.specs.Layout.{amount, paid, incurred, fileLength, paidAt, varianceAt, priorVarianceAt, priorMeanAt, amountAt}
-use Rattle.definitions.specs.Refusals.{unless, fields, fileCheck}
+use Rattle.definitions.specs.Refusals.{unless, fields, fileCheck, isClear, accepted}
 use Rattle.definitions.specs.Refusals.{check1, check2, check3, check4, check5, check6, check7, check8, check9, check10}
 use Rattle.definitions.specs.Refusals.{yearLimit, closenessLimit, amountLimit, partLimit, goodPriorVariance}
-use Rattle.definitions.specs.Machine.{isClear, accepted}
 use Rattle.laws.specs.ClearChecks.{then-clear, unless-clear, fields-clear}
 
 pub record Within (lo hi v : ℕ) : Type 0 where

@@ -7,8 +7,7 @@ use mathlib.Core.Bool.{Bool, true, false, false≢true}
 use native.Mathlib.Nat.{eq-or-lt-of-le}
 use native.Mathlib.Omega.{arith}
 use lib.Dec.{T}
-use Rattle.definitions.specs.Refusals.{Check, clear, refuses, unless, _then_, fields}
-use Rattle.definitions.specs.Machine.{isClear}
+use Rattle.definitions.specs.Refusals.{Check, clear, refuses, unless, _then_, fields, isClear}
 
 pub record Both (a b : Check) : Type 0 where
   pub first : isClear a ≡ true

@@ -13,11 +13,11 @@ use Rattle.integers.specs.Sum.{sum}
 use Rattle.definitions.specs.Words.{within}
 use Rattle.definitions.specs.Layout.{Bytes, lastYear, parts, psiIndex, priorVariance, priorVarianceAt}
 use Rattle.definitions.specs.Weight.{weight}
-use Rattle.definitions.specs.Refusals.{Check, unless, _then_, fields, goodPriorVariance, fileCheck, rowCheck}
+use Rattle.definitions.specs.Refusals.{Check, unless, _then_, fields, goodPriorVariance, fileCheck, rowCheck, isClear, accepted}
 use Rattle.definitions.specs.Refusals.{check1, check2, check3, check4, check5, check6, check7, check8, check9, check10}
 use Rattle.definitions.specs.Observations.{Chain, chainOf, σ², τ², paidStep, incurredStep}
 use Rattle.definitions.specs.Matrix.{Figures, ownOf, own, targetOf, rightHand, ratiosOfLast}
-use Rattle.definitions.specs.Machine.{empty, openUnless, openCall, isClear, accepted}
+use Rattle.definitions.specs.Machine.{empty, openUnless, openCall}
 use Rattle.laws.specs.ClearChecks.{Kept, kept-first, kept-second, fields-clear, fields-same}
 use Rattle.laws.specs.Accepted.{within-yes, accepted-file}
 use Rattle.laws.specs.FileBounds.{p-from, q-from, column-p, column-q}

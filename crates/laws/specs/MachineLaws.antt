@@ -12,11 +12,11 @@ use lib.ListN.{length, List·getD-eq-default}
 use Rattle.definitions.specs.Words.{within, tabFrom, part}
 use Rattle.definitions.specs.Layout.{Bytes, lastYear, parts, priorMean, recordLength}
 use Rattle.definitions.specs.Page.{pageLength}
-use Rattle.definitions.specs.Refusals.{Check, clear, refuses, fileCheck, partLimit}
+use Rattle.definitions.specs.Refusals.{Check, clear, refuses, fileCheck, partLimit, isClear, accepted}
 use Rattle.definitions.specs.Matrix.{Figures, figuresOf, passes}
 use Rattle.definitions.specs.Sweep.{sweeps, sweepLimit, oneSweep}
 use Rattle.definitions.specs.Machine.{Call, open-file, judge, sweep, read, page, row, row-told, close}
-use Rattle.definitions.specs.Machine.{State, empty, holds, Outcome, isClear, accepted, openUnless}
+use Rattle.definitions.specs.Machine.{State, empty, holds, Outcome, openUnless}
 use Rattle.definitions.specs.Machine.{openCall, judgeCall, sweepCall, writeCall, recordIn, pageIn, outcome, outcomes, machine, figuresMachine}
 use Rattle.laws.specs.Accepted.{accepted-file, AcceptedFile}
 use Rattle.laws.specs.Tables.{tab-at, tabFrom-length}

@@ -3,8 +3,8 @@
 -- without, and no call answers 16. All of it is said in plain numbers and with no law named, so that none can be weakened unseen.
 use Prim.Native.Nat.{ℕ, zero, suc, _+_, _*_, _<_}
 use mathlib.Core.Path.{_≡_, refl, ap, subst}
-use mathlib.Core.Logic.{_≢_}
-use mathlib.Core.Bool.{true, not}
+use mathlib.Core.Logic.{_≢_, _↔_}
+use mathlib.Core.Bool.{true, not, false≢true}
 use native.Mathlib.Omega.{arith}
 use borrow.Author.Tests.{ne-eqb}
 use lib.Dec.{eqb}
@@ -12,22 +12,31 @@ use lib.IntN.{ℤ, pos, negsuc, natAbs}
 use lib.Signed.{_<ℤ_}
 use Rattle.integers.specs.Linear.{linear, zarith}
 use Rattle.definitions.specs.Layout.{Bytes, lastYear}
-use Rattle.definitions.specs.Refusals.{Check, clear, refuses, _then_, fields, fileCheck}
+use Rattle.definitions.specs.Refusals.{Check, clear, refuses, _then_, fields, fileCheck, isClear, accepted}
 use Rattle.definitions.specs.Refusals.{check1, check2, check3, check4, check5, check6, check7, check8, check9, check10}
 use Rattle.definitions.specs.Observations.{chainOf}
 use Rattle.definitions.specs.Matrix.{Figures, matrix}
-use Rattle.definitions.specs.Machine.{isClear, State, empty, holds, Outcome, refused, Call, answers, openUnless, openCall, outcome}
+use Rattle.definitions.specs.Machine.{State, empty, holds, Outcome, refused, Call, answers, openUnless, openCall, outcome}
 use Rattle.laws.specs.ClearChecks.{fields-good}
 use Rattle.laws.specs.Accepted.{accepted-file}
 use Rattle.laws.specs.Diagonal.{diagonal-positive}
 use Rattle.laws.specs.Numbers.{NumberedAnswer, call-numbered}
 
 module _ (f : Bytes) where
-  -- a file that 1 to 10 let through, whatever its priors
-  pub positive :
-      check1 f then check2 f then check3 f then check4 f then check5 f then check6 f then check7 f then check8 f then check9 f
-      then check10 f ≡ clear
-      → (k : ℕ) → k < 2 * lastYear f + 1 → pos 0 <ℤ matrix (chainOf f) k k
+  abbrev pub oneToTen : Check
+  oneToTen =
+      check1 f then check2 f then check3 f then check4 f then check5 f then check6 f then check7 f then check8 f then check9 f then check10 f
+
+  pub accepted-exactly : (accepted f ≡ true) ↔ (oneToTen ≡ clear)
+  unfolding fileCheck
+  accepted-exactly = (is-clear oneToTen, ap isClear)
+    where
+      is-clear : (c : Check) → isClear c ≡ true → c ≡ clear
+      is-clear clear h = refl
+      is-clear (refuses number place) h = absurd (false≢true h)
+
+  -- a file that they let through, whatever its priors
+  pub positive : oneToTen ≡ clear → (k : ℕ) → k < 2 * lastYear f + 1 → pos 0 <ℤ matrix (chainOf f) k k
   unfolding fileCheck
   positive passed k below =
       let least = diagonal-positive f (accepted-file f (ap isClear passed)) k below in

@@ -11,12 +11,11 @@ use lib.ListN.{length, take, drop, getD, length-append}
 use lib.Seq.{take-at, drop-at, drop-append-add, drop-drop, ext-getD}
 use Rattle.definitions.specs.Words.{part, tabFrom}
 use Rattle.definitions.specs.Layout.{Bytes, lastYear, parts}
-use Rattle.definitions.specs.Refusals.{yearLimit, partLimit}
+use Rattle.definitions.specs.Refusals.{yearLimit, partLimit, accepted}
 use Rattle.definitions.specs.Observations.{chainOf}
 use Rattle.definitions.specs.Matrix.{Part, Φ, Ψ, partOf, own, figuresOf}
 use Rattle.definitions.specs.Text.{ascii, space, lineFeed, decimalFrom, moreDigits, decimal, signedDecimal, aligned, readNumber, nameOf, indexOf}
 use Rattle.definitions.specs.Page.{pageLine, pageOf, columns, LineFits, PageFits}
-use Rattle.definitions.specs.Machine.{accepted}
 use Rattle.laws.specs.Accepted.{accepted-file}
 use Rattle.laws.specs.FileLimits.{file-limits}
 use Rattle.laws.specs.Tables.{tab-at}

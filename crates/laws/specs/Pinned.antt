@@ -17,9 +17,9 @@ use Rattle.definitions.specs.Page.{pageLength}
 use Rattle.definitions.specs.Logarithm.{logarithm}
 use Rattle.definitions.specs.Loss.{Vector, weighted, ratio, loss, lossTimes}
 use Rattle.definitions.specs.Observations.{Chain, chainOf, paidStep, incurredStep}
-use Rattle.definitions.specs.Refusals.{clear, rowCheck}
+use Rattle.definitions.specs.Refusals.{clear, rowCheck, accepted}
 use Rattle.definitions.specs.Matrix.{own, matrix, residueTimes, Figures, figuresOf, passes}
-use Rattle.definitions.specs.Machine.{accepted, State, empty, Call, outcomes, open-file, judge, sweep, read, page, row, row-told, close}
+use Rattle.definitions.specs.Machine.{State, empty, Call, outcomes, open-file, judge, sweep, read, page, row, row-told, close}
 use Rattle.definitions.specs.Machine.{closed, part-shown, row-is-shown, refusedOr, rowPart}
 use Rattle.definitions.specs.Machine.{recordIn, pageIn, openCall, judgeCall, sweepCall, readCall, pageCall, outcome, figuresMachine}
 use Rattle.definitions.specs.Guarantee.{Guarantee, Rounded}

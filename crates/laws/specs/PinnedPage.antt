@@ -15,7 +15,7 @@ use Rattle.definitions.specs.Observations.{chainOf}
 use Rattle.definitions.specs.Matrix.{Φ, Ψ, partOf, own, figuresOf}
 use Rattle.definitions.specs.Text.{ascii, readNumber, nameOf, indexOf}
 use Rattle.definitions.specs.Page.{pageLine, pageOf, PageFits}
-use Rattle.definitions.specs.Machine.{accepted}
+use Rattle.definitions.specs.Refusals.{accepted}
 use Rattle.laws.specs.Tables.{tab-at}
 use Rattle.laws.specs.Pages.{file-page-fits, page-injective}
 

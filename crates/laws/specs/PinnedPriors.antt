@@ -14,9 +14,9 @@ use Rattle.definitions.specs.Layout.{Bytes, lastYear, priorVariance, priorVaria
 use Rattle.definitions.specs.Weight.{weight}
 use Rattle.definitions.specs.Observations.{Chain, chainOf, σ², τ², paidStep, incurredStep}
 use Rattle.definitions.specs.Matrix.{Figures, own, rightHand, ratiosOfLast}
-use Rattle.definitions.specs.Refusals.{Check, unless, fields, _then_, goodPriorVariance, fileCheck, rowCheck}
+use Rattle.definitions.specs.Refusals.{Check, unless, fields, _then_, goodPriorVariance, fileCheck, rowCheck, isClear, accepted}
 use Rattle.definitions.specs.Refusals.{check1, check2, check3, check4, check5, check6, check8, check9, check10}
-use Rattle.definitions.specs.Machine.{empty, openUnless, openCall, isClear, accepted}
+use Rattle.definitions.specs.Machine.{empty, openUnless, openCall}
 use Rattle.laws.specs.Accepted.{Within, prior-yes}
 use Rattle.laws.specs.FlatPriors.{still-accepted, opened-alike, row-alike, same-but-for-0}
 use Rattle.laws.specs.FlatPriors.{own-of-phi, own-of-psi, right-hand-of-phi, right-hand-of-psi, observed-phi, observed-psi}

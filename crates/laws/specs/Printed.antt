@@ -10,12 +10,12 @@ use lib.IntN.{ℤ, natAbs}
 use lib.ListN.{length, length-append}
 use Rattle.definitions.specs.Words.{tabFrom, part}
 use Rattle.definitions.specs.Layout.{Bytes, lastYear, parts, priorMean}
-use Rattle.definitions.specs.Refusals.{Check, clear, refuses, fileCheck, yearLimit, partLimit}
+use Rattle.definitions.specs.Refusals.{Check, clear, refuses, fileCheck, yearLimit, partLimit, isClear, accepted}
 use Rattle.definitions.specs.Matrix.{Part, partOf, Figures, figuresOf, passes}
 use Rattle.definitions.specs.Sweep.{Swept, sweeps}
 use Rattle.definitions.specs.Text.{ascii, space, lineFeed, moreDigits, decimal, signedDecimal, nameOf, indexOf, lines}
 use Rattle.definitions.specs.Machine.{Answer, refused, opened, judged, settled, going, written, part-shown, row-is-shown, closed}
-use Rattle.definitions.specs.Machine.{State, empty, holds, Outcome, isClear, accepted, openUnless, openCall, sweepCall}
+use Rattle.definitions.specs.Machine.{State, empty, holds, Outcome, openUnless, openCall, sweepCall}
 use Rattle.definitions.specs.Programs.{countLine, partLine, refusalLine, spentLine, Show, printed, shown, sweepText, openText, programText}
 use Rattle.definitions.specs.Programs.{listed, listing}
 use Rattle.laws.specs.Accepted.{accepted-file}

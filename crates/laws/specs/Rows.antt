@@ -8,8 +8,8 @@ use native.Mathlib.Omega.{arith}
 use lib.Dec.{leb, leb→le}
 use lib.ListN.{length, drop, length-take, length-drop}
 use Rattle.definitions.specs.Layout.{Bytes, lastYear, cells, fileLength, rowAt, rowLength, rowBytes}
-use Rattle.definitions.specs.Refusals.{Check, clear, refuses, unless, fileCheck, rowCheck}
-use Rattle.definitions.specs.Machine.{isClear, partUnless, rowPart}
+use Rattle.definitions.specs.Refusals.{Check, clear, refuses, unless, fileCheck, rowCheck, isClear}
+use Rattle.definitions.specs.Machine.{partUnless, rowPart}
 use Rattle.laws.specs.Cells.{row-in-block, blocks-end}
 use Rattle.laws.specs.ClearChecks.{then-clear, unless-clear}
 use Rattle.laws.specs.Accepted.{AcceptedFile, accepted-file}

@@ -6,9 +6,8 @@ use native.Mathlib.Omega.{arith}
 use lib.IntN.{ℤ}
 use Rattle.definitions.specs.Words.{part, tabFrom}
 use Rattle.definitions.specs.Layout.{Bytes, lastYear, parts, priorMean}
-use Rattle.definitions.specs.Refusals.{clear, fileCheck}
+use Rattle.definitions.specs.Refusals.{clear, fileCheck, isClear}
 use Rattle.definitions.specs.Matrix as D
-use Rattle.definitions.specs.Machine.{isClear}
 use Rattle.laws.specs.Accepted.{AcceptedFile, accepted-file}
 use Rattle.laws.specs.Tables.{tab-cong}
 use Rattle.chain.specs.declared.arrays.Figures.{Figures}

@@ -4,9 +4,9 @@ use mathlib.Core.Path.{_≡_, refl, sym, ap, _∙_}
 use native.Mathlib.Omega.{arith}
 use Rattle.definitions.specs.Words.{tabFrom}
 use Rattle.definitions.specs.Layout.{Bytes, lastYear, parts, priorMean}
-use Rattle.definitions.specs.Refusals.{Check, clear, refuses, fileCheck}
+use Rattle.definitions.specs.Refusals.{Check, clear, refuses, fileCheck, isClear}
 use Rattle.definitions.specs.Matrix.{Figures, figuresOf}
-use Rattle.definitions.specs.Machine.{Answer, opened, refused, empty, Outcome, isClear, openUnless, openCall}
+use Rattle.definitions.specs.Machine.{Answer, opened, refused, empty, Outcome, openUnless, openCall}
 use Rattle.laws.specs.Number16.{openWith16, alike-without-16}
 use Rattle.holding.specs.State.{Held, stateOf, HoldsFile}
 use Rattle.opening.specs.declared.OpenAnswer.{OpenAnswer}

@@ -8,11 +8,10 @@ use lib.IntN.{ℤ, pos}
 use lib.ListN.{getD}
 use Rattle.definitions.specs.Words.{tabFrom, part}
 use Rattle.definitions.specs.Layout.{Bytes, lastYear, parts}
-use Rattle.definitions.specs.Refusals.{yearLimit}
+use Rattle.definitions.specs.Refusals.{yearLimit, accepted}
 use Rattle.definitions.specs.Observations.{chainOf}
 use Rattle.definitions.specs.Matrix as D
 use Rattle.definitions.specs.Matrix.{entry}
-use Rattle.definitions.specs.Machine.{accepted}
 use Rattle.laws.specs.Accepted.{accepted-file}
 use Rattle.laws.specs.Tables.{tab-at}
 use Rattle.chain.specs.Arrays.{figuresAt, figuresOf}
