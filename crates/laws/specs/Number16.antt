@@ -25,7 +25,8 @@ use Rattle.laws.specs.Numbers.{NumberedAnswer, call-numbered}
 module _ (f : Bytes) where
   abbrev pub oneToTen : Check
   oneToTen =
-      check1 f then check2 f then check3 f then check4 f then check5 f then check6 f then check7 f then check8 f then check9 f then check10 f
+      check1 f then check2 f then check3 f then check4 f then check5 f
+      then check6 f then check7 f then check8 f then check9 f then check10 f
 
   pub accepted-exactly : (accepted f ≡ true) ↔ (oneToTen ≡ clear)
   unfolding fileCheck
