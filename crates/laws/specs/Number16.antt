@@ -47,8 +47,7 @@ module _ (f : Bytes) where
   abbrev pub check16 : Check
   check16 = fields (λ k. not (eqb (natAbs (matrix (chainOf f) k k)) 0)) 16 (λ k. 0) 0 (2 * lastYear f + 1)
 
-  check16-clear : fileCheck f ≡ clear → check16 ≡ clear
-  unfolding fileCheck
+  check16-clear : oneToTen ≡ clear → check16 ≡ clear
   check16-clear passed =
       fields-good (λ k. not (eqb (natAbs (matrix (chainOf f) k k)) 0)) 16 (λ k. 0) 0 (2 * lastYear f + 1)
       (λ k from to. not-zero (matrix (chainOf f) k k) (positive passed k (omega arith)))
@@ -58,10 +57,10 @@ module _ (f : Bytes) where
       not-zero (pos (suc n)) some = ap not (ne-eqb (suc n) 0 (λ none. omega arith))
       not-zero (negsuc n) some = ap not (ne-eqb (suc n) 0 (λ none. omega arith))
 
-  same-check : fileCheck f then check16 ≡ fileCheck f
-  same-check = by-check (fileCheck f) refl
+  same-check : oneToTen then check16 ≡ oneToTen
+  same-check = by-check oneToTen refl
     where
-      by-check : (c : Check) → fileCheck f ≡ c → c then check16 ≡ c
+      by-check : (c : Check) → oneToTen ≡ c → c then check16 ≡ c
       by-check clear e = check16-clear e
       by-check (refuses number place) e = refl
 
@@ -69,12 +68,12 @@ module _ (f : Bytes) where
 module _ (X : Type 0) (keep : Bytes → X) (figures : X → Figures) where
   -- open with 16 in its order: 22, then 1 to 10, then 16
   abbrev pub openWith16 : State X → Bytes → Outcome X
-  openWith16 empty f = openUnless X keep figures (fileCheck f then check16 f) f
+  openWith16 empty f = openUnless X keep figures (oneToTen f then check16 f) f
   openWith16 (holds x μ total) f = answers X keep figures (holds x μ total) (refused 22 0)
 
   -- answer, state and buffer are those of open, which does not have it
   pub alike-without-16 : (st : State X) (f : Bytes) → openWith16 st f ≡ openCall X keep figures st f
-  unfolding openCall
+  unfolding openCall fileCheck
   alike-without-16 empty f = ap (λ check. openUnless X keep figures check f) (same-check f)
   alike-without-16 (holds x μ total) f = refl
 
