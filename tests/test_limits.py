@@ -22,7 +22,8 @@ HEADER = (ROOT / "include" / "desk.h").read_text()
 SPECS = ROOT / "crates" / "definitions" / "specs"
 DEFINITIONS = "".join((SPECS / f"{name}.antt").read_text() for name in ("Logarithm", "Refusals", "Sweep", "Machine", "Guarantee"))
 PAGE, LAYOUT = ((SPECS / f"{name}.antt").read_text() for name in ("Page", "Layout"))
-NUMBERS = (ROOT / "crates" / "laws" / "specs" / "Numbers.antt").read_text()
+LAW = (ROOT / "crates" / "laws" / "specs" / "Number16.antt").read_text()
+CALLS = "".join((ROOT / "crates" / source).read_text() for source in ("session/src/calls.rt", "desk/src/exports.rt"))
 
 # Where the definitions write the numbers that a refusal's words repeat, in the order of the words.
 WRITTEN = {
@@ -104,8 +105,8 @@ class Refusals(unittest.TestCase):
         self.assertEqual({number: place for number, (_, place) in table_of_numbers().items()}, places())
 
     def test_the_law_lists_the_numbers_of_the_table(self) -> None:
-        listed_by_law = re.search(r"^inTable n = (.+)$", NUMBERS, re.MULTILINE)[1]
-        runs = re.fullmatch(r"within (\d+) (\d+) n \|\| within (\d+) (\d+) n", listed_by_law).groups()
+        run = r"\(\((\d+) ≤ number\) × \(number ≤ (\d+)\)\)"
+        runs = re.search(rf"^  pub in-table : .*\n +→ {run} ⊎ {run}$", LAW, re.MULTILINE).groups()
         self.assertEqual(listed("{} to {}, {} to {}".format(*runs)), [*table_of_numbers()])
 
     def test_16_is_not_used(self) -> None:
@@ -126,6 +127,15 @@ class Refusals(unittest.TestCase):
         calls = {call: getattr(reserving_desk.Session, writing.get(call, call)) for call in wanted}
         told = {call: listed(re.search(r"Refused with (.*)\.", method.__doc__)[1]) for call, method in calls.items()}
         self.assertEqual(told, wanted)
+
+
+    def test_so_do_the_comments_of_the_code(self) -> None:
+        rows = re.findall(r"^\| `\w+::\w+::\w+` \| `desk_(\w+)` .*\| ([\d, to]+) \|$", SPECIFICATION, re.MULTILINE)
+        function = r'(?:#\[no_mangle\]\n)?pub (?:extern "C" )?fn (?:desk_)?(\w+?)(?:_lent)?(?:<\'a>)?\('
+        comments = re.findall(rf"^// (\d[^.\n]*)\..*\n{function}", CALLS, re.MULTILINE)
+        rows += [(call, numbers) for call, numbers in rows if call != "row"]  # over a value; row's two calls stand in `readings`
+        told = [(call, listed(numbers)) for numbers, call in comments]
+        self.assertCountEqual(told, [(call, listed(numbers)) for call, numbers in rows])
 
 
 class Limits(unittest.TestCase):

@@ -62,7 +62,8 @@ PINNED = {
     "laws/PinnedPage": "page-bytes name-on-page index-on-page ticks-on-page weight-on-page spaces-on-page never-shared",
     "laws/PinnedPriors":
         "prior-variance-taken accepted-still opened-still row-still same-with-priors phi-alone psi-alone phi-owned psi-owned",
-    "laws/Number16": "oneToTen accepted-exactly positive check16 openWith16 alike-without-16 never-16",
+    "laws/Number16":
+        "oneToTen accepted-exactly positive check16 zero-refused no-zero-clear openWith16 alike-without-16 in-table never-16",
     "row_starts/Pinned": "sixteen cells-counted none-counted",
     "holding/Pinned": "open-file reached-open",
     "opening/Pinned": "open-refused opened-holds as-with-16",
@@ -82,6 +83,30 @@ PINNED = {
         "figures-numbered shown-numbers shown-own shown-entry shown-right-hand numbers-of-file own-of-file entry-of-file "
         "right-hand-of-file row-told row-shows row-inside row-empty row-numbered judge-worth judge-rounded sweep-worth sweep-rounded "
         "write-worth",
+}
+
+# Of number 16, what is said to the letter: it is in no definition any more, so that nothing else holds what it was.
+OF_16 = {
+    "laws/Number16": (
+        "module _ (f : Bytes) where abbrev pub oneToTen : Check oneToTen = check1 f then check2 f then check3 f then check4 f "
+        "then check5 f then check6 f then check7 f then check8 f then check9 f then check10 f pub accepted-exactly",
+        "pub accepted-exactly : (accepted f ≡ true) ↔ (oneToTen ≡ clear) unfolding",
+        "pub positive : oneToTen ≡ clear → (k : ℕ) → k < 2 * lastYear f + 1 → pos 0 <ℤ matrix (chainOf f) k k unfolding",
+        "pub zero-refused : (k : ℕ) → k < 2 * lastYear f + 1 → matrix (chainOf f) k k ≡ pos 0 → check16 ≡ refuses 16 0 zero-refused",
+        "pub no-zero-clear : ((k : ℕ) → k < 2 * lastYear f + 1 → matrix (chainOf f) k k ≢ pos 0) → check16 ≡ clear no-zero-clear",
+        "module _ (X : Type 0) (keep : Bytes → X) (figures : X → Figures) where abbrev pub openWith16 : State X → Bytes → Outcome X "
+        "openWith16 empty f = openUnless X keep figures (oneToTen f then check16 f) f "
+        "openWith16 (holds x μ total) f = answers X keep figures (holds x μ total) (refused 22 0) pub alike-without-16",
+        "pub alike-without-16 : (st : State X) (f : Bytes) → openWith16 st f ≡ openCall X keep figures st f unfolding",
+        "pub in-table : (st : State X) (call : Call) (number place : ℕ) → outcome X keep figures st call .answer ≡ refused number place "
+        "→ ((1 ≤ number) × (number ≤ 15)) ⊎ ((21 ≤ number) × (number ≤ 24)) in-table",
+        "pub never-16 : (st : State X) (call : Call) (place : ℕ) → outcome X keep figures st call .answer ≢ refused 16 place never-16",
+    ),
+    "opening/Pinned": (
+        "pub as-with-16 : (s t : Held) (f : Bytes) (r : OpenAnswer) → Opens s f r t "
+        "→ let o : Outcome Figures = openWith16 Figures figuresOf (λ F. F) (stateOf s) f in "
+        "(ofOpen r ≡ o .answer) × (stateOf t ≡ o .state) as-with-16",
+    ),
 }
 
 # The examples that document 01 marks with a star ("Figures to agree on").
@@ -120,6 +145,13 @@ class Promises(unittest.TestCase):
         for file, names in PINNED.items():
             text = text_of("crates/{}/specs/{}.antt".format(*file.split("/")))
             self.assertEqual(re.findall(r"^ *(?:abbrev )?pub (?:record )?(\S+)", text, re.MULTILINE), names.split(), file)
+
+    def test_what_is_said_of_16(self) -> None:
+        for file, said in OF_16.items():
+            text = re.sub(r"--.*", "", text_of("crates/{}/specs/{}.antt".format(*file.split("/"))))
+            self.assertEqual(text.count("module _"), sum(words.startswith("module _") for words in said), file)
+            for words in said:
+                self.assertIn(words, " ".join(text.split()))
 
     def test_a_session_is_private(self) -> None:
         fields = re.search(r"pub struct Session \{(.*?)\}", text_of("crates/session/src/lib.rt"), re.DOTALL)[1]

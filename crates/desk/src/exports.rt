@@ -21,7 +21,7 @@ use telling::sweep_told;
 use telling::system_told;
 use telling::write_told;
 
-// 22, then 1 to 10, then 16.
+// 22, then 1 to 10.
 #[no_mangle]
 pub extern "C" fn desk_open_lent<'a>(
     held: &'a mut [u64; 3],

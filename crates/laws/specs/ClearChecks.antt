@@ -1,7 +1,7 @@
 -- What a check that is clear says of the checks and the fields that it is made of; and two checks side by side, of which the one lets
 -- through whatever the other does.
 use Prim.Native.Nat.{ℕ, zero, suc, _+_, _≤_, _<_}
-use mathlib.Core.Path.{_≡_, refl, ap, ap₂, subst}
+use mathlib.Core.Path.{_≡_, refl, sym, ap, ap₂, subst, _∙_}
 use mathlib.Core.Logic.{_⊎_, inl, inr}
 use mathlib.Core.Bool.{Bool, true, false, false≢true}
 use native.Mathlib.Nat.{eq-or-lt-of-le}
@@ -41,6 +41,23 @@ unfolding fields
 fields-good good number placeOf i zero all = refl
 fields-good good number placeOf i (suc n) all =
     rw (all i (omega arith) (omega arith)) (fields-good good number placeOf (suc i) n (λ k from to. all k (omega arith) (omega arith)))
+
+-- and where one of them is not, it refuses; of fields that share a place
+pub fields-bad : (good : ℕ → Bool) (number place : ℕ) (i n k : ℕ) → i ≤ k → k < i + n → good k ≡ false
+    → fields good number (λ j. place) i n ≡ refuses number place
+unfolding fields
+fields-bad good number place i zero k from to bad = absurd (omega arith)
+fields-bad good number place i (suc n) k from to bad =
+    by-first (good i) refl (λ later. fields-bad good number place (suc i) n k later (omega arith) bad)
+  where
+    past : good i ≡ true → (i ≡ k) ⊎ (i < k) → i < k
+    past e (inl same) = absurd (false≢true (sym bad ∙ sym (ap good same) ∙ e))
+    past e (inr later) = later
+
+    by-first : {rest : Check} (t : Bool) → good i ≡ t → (i < k → rest ≡ refuses number place)
+        → unless t number place then rest ≡ refuses number place
+    by-first true e later = later (past e (eq-or-lt-of-le from))
+    by-first false e later = refl
 
 -- ---- side by side
 

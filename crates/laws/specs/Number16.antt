@@ -1,24 +1,25 @@
--- Document 02's number 16, which is not used. It refused a file whose matrix has a zero on its diagonal, behind 1 to 10, and no file that
--- these let through has one: each diagonal entry is positive, flat priors included. So open answers with 16 in its order as it does
--- without, and no call answers 16. All of it is said in plain numbers and with no law named, so that none can be weakened unseen.
-use Prim.Native.Nat.{ℕ, zero, suc, _+_, _*_, _<_}
+-- Number 16, which document 02 takes out. It stood for a zero on the diagonal of a file's matrix, behind 1 to 10, and no file that these
+-- let through has one: each diagonal entry is positive, flat priors included. So open answers with 16 in its order as it does without,
+-- and no call answers 16. All of it is said in plain numbers and with no law named.
+use Prim.Native.Nat.{ℕ, zero, suc, _+_, _*_, _≤_, _<_, zero-le}
 use mathlib.Core.Path.{_≡_, refl, ap, subst}
-use mathlib.Core.Logic.{_≢_, _↔_}
-use mathlib.Core.Bool.{true, not, false≢true}
+use mathlib.Core.Logic.{_≢_, _⊎_, inl, inr, _↔_}
+use mathlib.Core.Bool.{Bool, true, false, not, _||_, false≢true}
 use native.Mathlib.Omega.{arith}
 use borrow.Author.Tests.{ne-eqb}
-use lib.Dec.{eqb}
+use lib.Dec.{T, eqb}
 use lib.IntN.{ℤ, pos, negsuc, natAbs}
-use lib.Signed.{_<ℤ_}
+use lib.Signed.{_<ℤ_, <ℤ-irrefl}
 use Rattle.integers.specs.Linear.{linear, zarith}
+use Rattle.definitions.specs.Words.{within}
 use Rattle.definitions.specs.Layout.{Bytes, lastYear}
 use Rattle.definitions.specs.Refusals.{Check, clear, refuses, _then_, fields, fileCheck, isClear, accepted}
 use Rattle.definitions.specs.Refusals.{check1, check2, check3, check4, check5, check6, check7, check8, check9, check10}
 use Rattle.definitions.specs.Observations.{chainOf}
 use Rattle.definitions.specs.Matrix.{Figures, matrix}
 use Rattle.definitions.specs.Machine.{State, empty, holds, Outcome, refused, Call, answers, openUnless, openCall, outcome}
-use Rattle.laws.specs.ClearChecks.{fields-good}
-use Rattle.laws.specs.Accepted.{accepted-file}
+use Rattle.laws.specs.ClearChecks.{fields-good, fields-bad}
+use Rattle.laws.specs.Accepted.{Within, within-yes, accepted-file}
 use Rattle.laws.specs.Diagonal.{diagonal-positive}
 use Rattle.laws.specs.Numbers.{NumberedAnswer, call-numbered}
 
@@ -47,13 +48,15 @@ module _ (f : Bytes) where
   abbrev pub check16 : Check
   check16 = fields (λ k. not (eqb (natAbs (matrix (chainOf f) k k)) 0)) 16 (λ k. 0) 0 (2 * lastYear f + 1)
 
-  check16-clear : oneToTen ≡ clear → check16 ≡ clear
-  check16-clear passed =
-      fields-good (λ k. not (eqb (natAbs (matrix (chainOf f) k k)) 0)) 16 (λ k. 0) 0 (2 * lastYear f + 1)
-      (λ k from to. not-zero (matrix (chainOf f) k k) (positive passed k (omega arith)))
+  pub zero-refused : (k : ℕ) → k < 2 * lastYear f + 1 → matrix (chainOf f) k k ≡ pos 0 → check16 ≡ refuses 16 0
+  zero-refused k below none = fields-bad _ 16 0 0 (2 * lastYear f + 1) k zero-le (omega arith) (rw none refl)
+
+  pub no-zero-clear : ((k : ℕ) → k < 2 * lastYear f + 1 → matrix (chainOf f) k k ≢ pos 0) → check16 ≡ clear
+  no-zero-clear some =
+      fields-good _ 16 (λ k. 0) 0 (2 * lastYear f + 1) (λ k from to. not-zero (matrix (chainOf f) k k) (some k (omega arith)))
     where
-      not-zero : (z : ℤ) → pos 0 <ℤ z → not (eqb (natAbs z) 0) ≡ true
-      not-zero (pos zero) some = absurd (some .lt)
+      not-zero : (z : ℤ) → z ≢ pos 0 → not (eqb (natAbs z) 0) ≡ true
+      not-zero (pos zero) some = absurd (some refl)
       not-zero (pos (suc n)) some = ap not (ne-eqb (suc n) 0 (λ none. omega arith))
       not-zero (negsuc n) some = ap not (ne-eqb (suc n) 0 (λ none. omega arith))
 
@@ -61,7 +64,7 @@ module _ (f : Bytes) where
   same-check = by-check oneToTen refl
     where
       by-check : (c : Check) → oneToTen ≡ c → c then check16 ≡ c
-      by-check clear e = check16-clear e
+      by-check clear e = no-zero-clear (λ k below none. <ℤ-irrefl (subst (λ z. pos 0 <ℤ z) none (positive e k below)))
       by-check (refuses number place) e = refl
 
 -- for whatever is kept of a file: the file itself, as the specification's machine does, or its figures, as a session does
@@ -77,5 +80,20 @@ module _ (X : Type 0) (keep : Bytes → X) (figures : X → Figures) where
   alike-without-16 empty f = ap (λ check. openUnless X keep figures check f) (same-check f)
   alike-without-16 (holds x μ total) f = refl
 
+  -- the number of a refusal is one of the table, whatever is called
+  pub in-table : (st : State X) (call : Call) (number place : ℕ) → outcome X keep figures st call .answer ≡ refused number place
+      → ((1 ≤ number) × (number ≤ 15)) ⊎ ((21 ≤ number) × (number ≤ 24))
+  in-table st call number place e =
+      by-first (within 1 15 number) (within-yes 1 15 number) (subst NumberedAnswer e (call-numbered X keep figures st call))
+    where
+      by-first : (t : Bool) → (T t → Within 1 15 number) → T (t || within 21 24 number)
+          → ((1 ≤ number) × (number ≤ 15)) ⊎ ((21 ≤ number) × (number ≤ 24))
+      by-first true first listed = let w = first tt in inl (w .from, w .to)
+      by-first false first listed = let w = within-yes 21 24 number listed in inr (w .from, w .to)
+
   pub never-16 : (st : State X) (call : Call) (place : ℕ) → outcome X keep figures st call .answer ≢ refused 16 place
-  never-16 st call place e = subst NumberedAnswer e (call-numbered X keep figures st call)
+  never-16 st call place e = neither (in-table st call 16 place e)
+    where
+      neither : ((1 ≤ 16) × (16 ≤ 15)) ⊎ ((21 ≤ 16) × (16 ≤ 24)) → ⊥
+      neither (inl h) = omega (arith, h .1)
+      neither (inr h) = omega (arith, h .0)

@@ -23,7 +23,7 @@ use crate::lent::sweep_lent;
 use crate::state::empty;
 use chain::arrays::Figures;
 
-// 22, then 1 to 10, then 16.
+// 22, then 1 to 10.
 pub fn open(s: Session, file: &[u8]) -> Opening
     ensures { λ r. ⌜ Opens (heldBy s) (now (file .entry)) (r .answer) (heldBy (r .session)) ⌝ }
 {
