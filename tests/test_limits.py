@@ -112,6 +112,7 @@ class Refusals(unittest.TestCase):
     def test_16_is_not_used(self) -> None:
         self.assertRegex(SPECIFICATION, r"(?m)^\| 15 \|.*\n\| 16 \| is not used \| \|\n\| 21 \|")
         self.assertNotIn(16, {*table_of_numbers(), *places(), *WORDS})
+        self.assertNotIn("Refusal(16", "".join(path.read_text() for path in (ROOT / "reference").glob("*.py")))
 
     def test_limits_in_the_words_are_the_definitions(self) -> None:
         for number, words in WORDS.items():
