@@ -63,7 +63,7 @@ PINNED = {
     "laws/PinnedPriors":
         "prior-variance-taken accepted-still opened-still row-still same-with-priors phi-alone psi-alone phi-owned psi-owned",
     "laws/Number16":
-        "oneToTen accepted-exactly positive check16 zero-refused no-zero-clear openWith16 alike-without-16 in-table never-16",
+        "oneToTen accepted-exactly positive check16 zero-refused no-zero-clear openWith16 alike-without-16 never-16",
     "row_starts/Pinned": "sixteen cells-counted none-counted",
     "holding/Pinned": "open-file reached-open",
     "opening/Pinned": "open-refused opened-holds as-with-16",
@@ -85,8 +85,8 @@ PINNED = {
         "write-worth",
 }
 
-# Of number 16, what is said to the letter: it is in no definition any more, so that nothing else holds what it was.
-OF_16 = {
+# Of number 16, and of the numbers that there are, what is said to the letter: no definition has it, so that nothing else holds it.
+OF_NUMBERS = {
     "laws/Number16": (
         "module _ (f : Bytes) where abbrev pub oneToTen : Check oneToTen = check1 f then check2 f then check3 f then check4 f "
         "then check5 f then check6 f then check7 f then check8 f then check9 f then check10 f pub accepted-exactly",
@@ -98,9 +98,12 @@ OF_16 = {
         "openWith16 empty f = openUnless X keep figures (oneToTen f then check16 f) f "
         "openWith16 (holds x μ total) f = answers X keep figures (holds x μ total) (refused 22 0) pub alike-without-16",
         "pub alike-without-16 : (st : State X) (f : Bytes) → openWith16 st f ≡ openCall X keep figures st f unfolding",
+        "pub never-16 : (st : State X) (call : Call) (place : ℕ) → outcome X keep figures st call .answer ≢ refused 16 place never-16",
+    ),
+    "laws/Numbers": (
+        "module _ (X : Type 0) (keep : Bytes → X) (figures : X → Figures) where pub open-numbered",
         "pub in-table : (st : State X) (call : Call) (number place : ℕ) → outcome X keep figures st call .answer ≡ refused number place "
         "→ ((1 ≤ number) × (number ≤ 15)) ⊎ ((21 ≤ number) × (number ≤ 24)) in-table",
-        "pub never-16 : (st : State X) (call : Call) (place : ℕ) → outcome X keep figures st call .answer ≢ refused 16 place never-16",
     ),
     "opening/Pinned": (
         "pub as-with-16 : (s t : Held) (f : Bytes) (r : OpenAnswer) → Opens s f r t "
@@ -146,8 +149,8 @@ class Promises(unittest.TestCase):
             text = text_of("crates/{}/specs/{}.antt".format(*file.split("/")))
             self.assertEqual(re.findall(r"^ *(?:abbrev )?pub (?:record )?(\S+)", text, re.MULTILINE), names.split(), file)
 
-    def test_what_is_said_of_16(self) -> None:
-        for file, said in OF_16.items():
+    def test_what_is_said_of_16_and_of_the_other_numbers(self) -> None:
+        for file, said in OF_NUMBERS.items():
             text = re.sub(r"--.*", "", text_of("crates/{}/specs/{}.antt".format(*file.split("/"))))
             self.assertEqual(text.count("module _"), sum(words.startswith("module _") for words in said), file)
             for words in said:

@@ -4,14 +4,13 @@
 use Prim.Native.Nat.{ℕ, zero, suc, _+_, _*_, _≤_, _<_, zero-le}
 use mathlib.Core.Path.{_≡_, refl, ap, subst}
 use mathlib.Core.Logic.{_≢_, _⊎_, inl, inr, _↔_}
-use mathlib.Core.Bool.{Bool, true, false, not, _||_, false≢true}
+use mathlib.Core.Bool.{true, not, false≢true}
 use native.Mathlib.Omega.{arith}
 use borrow.Author.Tests.{ne-eqb}
-use lib.Dec.{T, eqb}
+use lib.Dec.{eqb}
 use lib.IntN.{ℤ, pos, negsuc, natAbs}
 use lib.Signed.{_<ℤ_, <ℤ-irrefl}
 use Rattle.integers.specs.Linear.{linear, zarith}
-use Rattle.definitions.specs.Words.{within}
 use Rattle.definitions.specs.Layout.{Bytes, lastYear}
 use Rattle.definitions.specs.Refusals.{Check, clear, refuses, _then_, fields, fileCheck, isClear, accepted}
 use Rattle.definitions.specs.Refusals.{check1, check2, check3, check4, check5, check6, check7, check8, check9, check10}
@@ -19,9 +18,9 @@ use Rattle.definitions.specs.Observations.{chainOf}
 use Rattle.definitions.specs.Matrix.{Figures, matrix}
 use Rattle.definitions.specs.Machine.{State, empty, holds, Outcome, refused, Call, answers, openUnless, openCall, outcome}
 use Rattle.laws.specs.ClearChecks.{fields-good, fields-bad}
-use Rattle.laws.specs.Accepted.{Within, within-yes, accepted-file}
+use Rattle.laws.specs.Accepted.{accepted-file}
 use Rattle.laws.specs.Diagonal.{diagonal-positive}
-use Rattle.laws.specs.Numbers.{NumberedAnswer, call-numbered}
+use Rattle.laws.specs.Numbers.{in-table}
 
 module _ (f : Bytes) where
   abbrev pub oneToTen : Check
@@ -80,19 +79,8 @@ module _ (X : Type 0) (keep : Bytes → X) (figures : X → Figures) where
   alike-without-16 empty f = ap (λ check. openUnless X keep figures check f) (same-check f)
   alike-without-16 (holds x μ total) f = refl
 
-  -- the number of a refusal is one of the table, whatever is called
-  pub in-table : (st : State X) (call : Call) (number place : ℕ) → outcome X keep figures st call .answer ≡ refused number place
-      → ((1 ≤ number) × (number ≤ 15)) ⊎ ((21 ≤ number) × (number ≤ 24))
-  in-table st call number place e =
-      by-first (within 1 15 number) (within-yes 1 15 number) (subst NumberedAnswer e (call-numbered X keep figures st call))
-    where
-      by-first : (t : Bool) → (T t → Within 1 15 number) → T (t || within 21 24 number)
-          → ((1 ≤ number) × (number ≤ 15)) ⊎ ((21 ≤ number) × (number ≤ 24))
-      by-first true first listed = let w = first tt in inl (w .from, w .to)
-      by-first false first listed = let w = within-yes 21 24 number listed in inr (w .from, w .to)
-
   pub never-16 : (st : State X) (call : Call) (place : ℕ) → outcome X keep figures st call .answer ≢ refused 16 place
-  never-16 st call place e = neither (in-table st call 16 place e)
+  never-16 st call place e = neither (in-table X keep figures st call 16 place e)
     where
       neither : ((1 ≤ 16) × (16 ≤ 15)) ⊎ ((21 ≤ 16) × (16 ≤ 24)) → ⊥
       neither (inl h) = omega (arith, h .1)

@@ -1,5 +1,7 @@
--- The number of a refusal is one of the specification's table: 0 is free to say that there is none, and 16 is not used.
-use Prim.Native.Nat.{ℕ, zero, suc}
+-- The number of a refusal is one of the specification's table (`in-table`): 0 is free to say that there is none, and 16 is not used.
+use Prim.Native.Nat.{ℕ, zero, suc, _≤_}
+use mathlib.Core.Path.{_≡_, subst}
+use mathlib.Core.Logic.{_⊎_, inl, inr}
 use mathlib.Core.Bool.{Bool, true, false, not, cond, _&&_, _||_}
 use mathlib.Core.List.{List}
 use lib.IntN.{ℤ}
@@ -17,6 +19,7 @@ use Rattle.definitions.specs.Machine.{Call, open-file, judge, sweep, read, page
 use Rattle.definitions.specs.Machine.{Outcome, Answer, refused, opened, judged, settled, going, written, part-shown, row-is-shown, closed}
 use Rattle.definitions.specs.Machine.{State, empty, holds, openUnless, refusedOr}
 use Rattle.definitions.specs.Machine.{openCall, judgeCall, sweepCall, writeCall, recordIn, pageIn, outcome}
+use Rattle.laws.specs.Accepted.{Within, within-yes}
 
 -- the numbers of the input, and those of the state
 abbrev pub inTable : ℕ → Bool
@@ -149,3 +152,14 @@ module _ (X : Type 0) (keep : Bytes → X) (figures : X → Figures) where
   call-numbered st (row f channel year) = tt
   call-numbered st (row-told f channel year) = refused-or (rowCheck f channel year) row-is-shown (row-numbered f channel year) tt
   call-numbered st close = tt
+
+  -- the number of a refusal is one of the table, whatever is called
+  pub in-table : (st : State X) (call : Call) (number place : ℕ) → outcome X keep figures st call .answer ≡ refused number place
+      → ((1 ≤ number) × (number ≤ 15)) ⊎ ((21 ≤ number) × (number ≤ 24))
+  in-table st call number place e =
+      by-first (within 1 15 number) (within-yes 1 15 number) (subst NumberedAnswer e (call-numbered st call))
+    where
+      by-first : (t : Bool) → (T t → Within 1 15 number) → T (t || within 21 24 number)
+          → ((1 ≤ number) × (number ≤ 15)) ⊎ ((21 ≤ number) × (number ≤ 24))
+      by-first true first listed = let w = first tt in inl (w .from, w .to)
+      by-first false first listed = let w = within-yes 21 24 number listed in inr (w .from, w .to)
