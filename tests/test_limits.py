@@ -22,7 +22,7 @@ HEADER = (ROOT / "include" / "desk.h").read_text()
 SPECS = ROOT / "crates" / "definitions" / "specs"
 DEFINITIONS = "".join((SPECS / f"{name}.antt").read_text() for name in ("Logarithm", "Refusals", "Sweep", "Machine", "Guarantee"))
 PAGE, LAYOUT = ((SPECS / f"{name}.antt").read_text() for name in ("Page", "Layout"))
-LAW = (ROOT / "crates" / "laws" / "specs" / "Numbers.antt").read_text()
+LAW = (ROOT / "crates" / "laws" / "specs" / "Pinned.antt").read_text()
 CALLS = "".join((ROOT / "crates" / source).read_text() for source in ("session/src/calls.rt", "desk/src/exports.rt"))
 
 # Where the definitions write the numbers that a refusal's words repeat, in the order of the words.
@@ -106,7 +106,7 @@ class Refusals(unittest.TestCase):
 
     def test_the_law_lists_the_numbers_of_the_table(self) -> None:
         run = r"\(\((\d+) ≤ number\) × \(number ≤ (\d+)\)\)"
-        runs = re.search(rf"^  pub in-table : .*\n +→ {run} ⊎ {run}$", LAW, re.MULTILINE).groups()
+        runs = re.search(rf"^pub in-table : .*\n    → .* → {run} ⊎ {run}$", LAW, re.MULTILINE).groups()
         self.assertEqual(listed("{} to {}, {} to {}".format(*runs)), [*table_of_numbers()])
 
     def test_16_is_not_used(self) -> None:

@@ -58,7 +58,7 @@ PINNED = {
     "laws/Pinned":
         "Each Worth nearly-least near strictly-least worth Near room limits m u some exact half rounded at-the-bound near-passes "
         "logarithm-within-two-ticks Machine opens judges judges-alone sweeps reads reads-alone pages pages-alone shows "
-        "tells closes machine same-outcomes row-empty larger-logarithm loss-around divided-fits paid-sum-fits incurred-sum-fits",
+        "tells closes machine in-table same-outcomes row-empty larger-logarithm loss-around divided-fits paid-sum-fits incurred-sum-fits",
     "laws/PinnedPage": "page-bytes name-on-page index-on-page ticks-on-page weight-on-page spaces-on-page never-shared",
     "laws/PinnedPriors":
         "prior-variance-taken accepted-still opened-still row-still same-with-priors phi-alone psi-alone phi-owned psi-owned",
@@ -88,27 +88,27 @@ PINNED = {
 # Of number 16, and of the numbers that there are, what is said to the letter: no definition has it, so that nothing else holds it.
 OF_NUMBERS = {
     "laws/Number16": (
-        "module _ (f : Bytes) where abbrev pub oneToTen : Check oneToTen = check1 f then check2 f then check3 f then check4 f "
+        "| module _ (f : Bytes) where abbrev pub oneToTen : Check oneToTen = check1 f then check2 f then check3 f then check4 f "
         "then check5 f then check6 f then check7 f then check8 f then check9 f then check10 f pub accepted-exactly",
         "pub accepted-exactly : (accepted f ≡ true) ↔ (oneToTen ≡ clear) unfolding",
         "pub positive : oneToTen ≡ clear → (k : ℕ) → k < 2 * lastYear f + 1 → pos 0 <ℤ matrix (chainOf f) k k unfolding",
         "pub zero-refused : (k : ℕ) → k < 2 * lastYear f + 1 → matrix (chainOf f) k k ≡ pos 0 → check16 ≡ refuses 16 0 zero-refused",
         "pub no-zero-clear : ((k : ℕ) → k < 2 * lastYear f + 1 → matrix (chainOf f) k k ≢ pos 0) → check16 ≡ clear no-zero-clear",
-        "module _ (X : Type 0) (keep : Bytes → X) (figures : X → Figures) where abbrev pub openWith16 : State X → Bytes → Outcome X "
+        "| module _ (X : Type 0) (keep : Bytes → X) (figures : X → Figures) where abbrev pub openWith16 : State X → Bytes → Outcome X "
         "openWith16 empty f = openUnless X keep figures (oneToTen f then check16 f) f "
         "openWith16 (holds x μ total) f = answers X keep figures (holds x μ total) (refused 22 0) pub alike-without-16",
         "pub alike-without-16 : (st : State X) (f : Bytes) → openWith16 st f ≡ openCall X keep figures st f unfolding",
         "pub never-16 : (st : State X) (call : Call) (place : ℕ) → outcome X keep figures st call .answer ≢ refused 16 place never-16",
     ),
-    "laws/Numbers": (
-        "module _ (X : Type 0) (keep : Bytes → X) (figures : X → Figures) where pub open-numbered",
-        "pub in-table : (st : State X) (call : Call) (number place : ℕ) → outcome X keep figures st call .answer ≡ refused number place "
-        "→ ((1 ≤ number) × (number ≤ 15)) ⊎ ((21 ≤ number) × (number ≤ 24)) in-table",
+    "laws/Pinned": (
+        "| pub in-table : (X : Type 0) (keep : Bytes → X) (figures : X → Figures) (st : State X) (call : Call) (number place : ℕ) "
+        "→ outcome X keep figures st call .answer ≡ refused number place "
+        "→ ((1 ≤ number) × (number ≤ 15)) ⊎ ((21 ≤ number) × (number ≤ 24)) | in-table",
     ),
     "opening/Pinned": (
-        "pub as-with-16 : (s t : Held) (f : Bytes) (r : OpenAnswer) → Opens s f r t "
+        "| pub as-with-16 : (s t : Held) (f : Bytes) (r : OpenAnswer) → Opens s f r t "
         "→ let o : Outcome Figures = openWith16 Figures figuresOf (λ F. F) (stateOf s) f in "
-        "(ofOpen r ≡ o .answer) × (stateOf t ≡ o .state) as-with-16",
+        "(ofOpen r ≡ o .answer) × (stateOf t ≡ o .state) | as-with-16",
     ),
 }
 
@@ -152,9 +152,10 @@ class Promises(unittest.TestCase):
     def test_what_is_said_of_16_and_of_the_other_numbers(self) -> None:
         for file, said in OF_NUMBERS.items():
             text = re.sub(r"--.*", "", text_of("crates/{}/specs/{}.antt".format(*file.split("/"))))
-            self.assertEqual(text.count("module _"), sum(words.startswith("module _") for words in said), file)
+            lines = " ".join(re.sub(r"\n(?=\S)", " | ", text).split())  # with a bar before whatever stands in no module
             for words in said:
-                self.assertIn(words, " ".join(text.split()))
+                self.assertIn(words, lines)
+        self.assertEqual(text_of("crates/laws/specs/Number16.antt").count("module _"), 2)  # the two that are expected
 
     def test_a_session_is_private(self) -> None:
         fields = re.search(r"pub struct Session \{(.*?)\}", text_of("crates/session/src/lib.rt"), re.DOTALL)[1]

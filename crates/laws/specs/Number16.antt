@@ -20,7 +20,7 @@ use Rattle.definitions.specs.Machine.{State, empty, holds, Outcome, refused, Ca
 use Rattle.laws.specs.ClearChecks.{fields-good, fields-bad}
 use Rattle.laws.specs.Accepted.{accepted-file}
 use Rattle.laws.specs.Diagonal.{diagonal-positive}
-use Rattle.laws.specs.Numbers.{in-table}
+use Rattle.laws.specs.Pinned.{in-table}
 
 module _ (f : Bytes) where
   abbrev pub oneToTen : Check

@@ -1,7 +1,6 @@
--- The number of a refusal is one of the specification's table (`in-table`): 0 is free to say that there is none, and 16 is not used.
-use Prim.Native.Nat.{ℕ, zero, suc, _≤_}
-use mathlib.Core.Path.{_≡_, subst}
-use mathlib.Core.Logic.{_⊎_, inl, inr}
+-- The number of a refusal is one of the specification's table: 0 is free to say that there is none, and 16 is not used. `Pinned` has it
+-- of every call.
+use Prim.Native.Nat.{ℕ, zero, suc}
 use mathlib.Core.Bool.{Bool, true, false, not, cond, _&&_, _||_}
 use mathlib.Core.List.{List}
 use lib.IntN.{ℤ}
@@ -14,12 +13,9 @@ use Rattle.definitions.specs.Refusals.{check1, check2, check3, check4, check5, 
 use Rattle.definitions.specs.Refusals.{fileCheck, rowCheck, recordCheck}
 use Rattle.definitions.specs.Matrix.{Figures, passes}
 use Rattle.definitions.specs.Sweep.{sweeps, sweepLimit}
-use Rattle.definitions.specs.Page.{pageLength}
-use Rattle.definitions.specs.Machine.{Call, open-file, judge, sweep, read, page, row, row-told, close}
 use Rattle.definitions.specs.Machine.{Outcome, Answer, refused, opened, judged, settled, going, written, part-shown, row-is-shown, closed}
 use Rattle.definitions.specs.Machine.{State, empty, holds, openUnless, refusedOr}
-use Rattle.definitions.specs.Machine.{openCall, judgeCall, sweepCall, writeCall, recordIn, pageIn, outcome}
-use Rattle.laws.specs.Accepted.{Within, within-yes}
+use Rattle.definitions.specs.Machine.{openCall, judgeCall, sweepCall, writeCall}
 
 -- the numbers of the input, and those of the state
 abbrev pub inTable : ℕ → Bool
@@ -97,7 +93,7 @@ NumberedAnswer (part-shown b) = Unit {0}
 NumberedAnswer row-is-shown = Unit {0}
 NumberedAnswer closed = Unit {0}
 
-refused-or : (c : Check) (a : Answer) → Numbered c → NumberedAnswer a → NumberedAnswer (refusedOr c a)
+pub refused-or : (c : Check) (a : Answer) → Numbered c → NumberedAnswer a → NumberedAnswer (refusedOr c a)
 refused-or clear a h listed = listed
 refused-or (refuses number place) a h listed = h .listed
 
@@ -141,25 +137,3 @@ module _ (X : Type 0) (keep : Bytes → X) (figures : X → Figures) where
   write-numbered size text (holds x μ total) b =
       either (not (passes (figures x) (part μ))) _ _ tt
       (either (ltb (length b) (size (figures x .last))) _ _ tt tt)
-
-  pub call-numbered : (st : State X) (call : Call) → NumberedAnswer (outcome X keep figures st call .answer)
-  unfolding outcome
-  call-numbered st (open-file f) = open-numbered st f
-  call-numbered st (judge r) = judge-numbered st r
-  call-numbered st (sweep n) = sweep-numbered st n
-  call-numbered st (read b) = write-numbered recordLength recordIn st b
-  call-numbered st (page b) = write-numbered pageLength pageIn st b
-  call-numbered st (row f channel year) = tt
-  call-numbered st (row-told f channel year) = refused-or (rowCheck f channel year) row-is-shown (row-numbered f channel year) tt
-  call-numbered st close = tt
-
-  -- the number of a refusal is one of the table, whatever is called
-  pub in-table : (st : State X) (call : Call) (number place : ℕ) → outcome X keep figures st call .answer ≡ refused number place
-      → ((1 ≤ number) × (number ≤ 15)) ⊎ ((21 ≤ number) × (number ≤ 24))
-  in-table st call number place e =
-      by-first (within 1 15 number) (within-yes 1 15 number) (subst NumberedAnswer e (call-numbered st call))
-    where
-      by-first : (t : Bool) → (T t → Within 1 15 number) → T (t || within 21 24 number)
-          → ((1 ≤ number) × (number ≤ 15)) ⊎ ((21 ≤ number) × (number ≤ 24))
-      by-first true first listed = let w = first tt in inl (w .from, w .to)
-      by-first false first listed = let w = within-yes 21 24 number listed in inr (w .from, w .to)

@@ -2,16 +2,18 @@
 -- weakened and still give these. Pinned are: a residue of just e·D passes; the slack is e² and not e times the sum of own weights;
 -- u is over any m ≥ 1; another vector may differ in one part alone; rounding is promised from a closeness of 256 on, up to −2^26
 -- and 2^26, and for just half a tick. So with the bound of the logarithm. And the machine's outcome of a call is what the contract of
--- that call speaks of. Last, laws that are claimed and that nothing builds on.
+-- that call speaks of, with a number of the table where it is refused. Last, laws that are claimed and that nothing builds on.
 use Prim.Native.Nat.{ℕ, _+_, _*_, _-_, _^_, _≤_, _<_}
-use mathlib.Core.Path.{_≡_, refl, sym, ap, _∙_}
-use mathlib.Core.Logic.{_≢_, _↔_}
-use mathlib.Core.Bool.{true}
+use mathlib.Core.Path.{_≡_, refl, sym, ap, subst, _∙_}
+use mathlib.Core.Logic.{_≢_, _⊎_, inl, inr, _↔_}
+use mathlib.Core.Bool.{Bool, true, false, _||_}
 use mathlib.Core.List.{List, [], map}
 use native.Mathlib.Nat.{le-of-eq}
+use lib.Dec.{T}
 use lib.IntN.{ℤ, pos, natAbs, _+ℤ_, _-ℤ_, _*ℤ_}
 use lib.Signed.{_≤ℤ_, _<ℤ_}
 use Rattle.integers.specs.Sum.{sum, total}
+use Rattle.definitions.specs.Words.{within}
 use Rattle.definitions.specs.Layout.{Bytes, lastYear, closeness, recordLength}
 use Rattle.definitions.specs.Page.{pageLength}
 use Rattle.definitions.specs.Logarithm.{logarithm}
@@ -20,16 +22,17 @@ use Rattle.definitions.specs.Observations.{Chain, chainOf, paidStep, incurredSt
 use Rattle.definitions.specs.Refusals.{clear, rowCheck, accepted}
 use Rattle.definitions.specs.Matrix.{own, matrix, residueTimes, Figures, figuresOf, passes}
 use Rattle.definitions.specs.Machine.{State, empty, Call, outcomes, open-file, judge, sweep, read, page, row, row-told, close}
-use Rattle.definitions.specs.Machine.{closed, part-shown, row-is-shown, refusedOr, rowPart}
+use Rattle.definitions.specs.Machine.{closed, refused, part-shown, row-is-shown, refusedOr, rowPart}
 use Rattle.definitions.specs.Machine.{recordIn, pageIn, openCall, judgeCall, sweepCall, readCall, pageCall, outcome, figuresMachine}
 use Rattle.definitions.specs.Guarantee.{Guarantee, Rounded}
-use Rattle.laws.specs.Accepted.{accepted-file}
+use Rattle.laws.specs.Accepted.{Within, within-yes, accepted-file}
 use Rattle.laws.specs.Demand3.{demand3}
 use Rattle.laws.specs.FileLimits.{numerator-fits, x-sum-fits, z-sum-fits}
 use Rattle.laws.specs.Judged.{passes-of-small}
 use Rattle.laws.specs.LogarithmBound.{logarithm-bound}
 use Rattle.laws.specs.LogarithmOrder.{logarithm-grows}
 use Rattle.laws.specs.MachineLaws.{heldState, heldOutcome, write-alone, outcomes-on-figures}
+use Rattle.laws.specs.Numbers as N
 use Rattle.laws.specs.Rows.{empty-is-refused}
 use Rattle.laws.specs.Theorem34.{loss-expands}
 
@@ -139,6 +142,31 @@ module _ (st : State Figures) where
     tells = λ f channel year. refl;
     closes = refl;
   }
+
+-- ---- the number of a refusal is one of the specification's table, whatever is called and whatever is kept of a file
+
+call-numbered : (X : Type 0) (keep : Bytes → X) (figures : X → Figures) (st : State X) (call : Call)
+    → N.NumberedAnswer (outcome X keep figures st call .answer)
+unfolding outcome
+call-numbered X keep figures st (open-file f) = N.open-numbered X keep figures st f
+call-numbered X keep figures st (judge r) = N.judge-numbered X keep figures st r
+call-numbered X keep figures st (sweep n) = N.sweep-numbered X keep figures st n
+call-numbered X keep figures st (read b) = N.write-numbered X keep figures recordLength recordIn st b
+call-numbered X keep figures st (page b) = N.write-numbered X keep figures pageLength pageIn st b
+call-numbered X keep figures st (row f channel year) = tt
+call-numbered X keep figures st (row-told f channel year) =
+    N.refused-or (rowCheck f channel year) row-is-shown (N.row-numbered f channel year) tt
+call-numbered X keep figures st close = tt
+
+pub in-table : (X : Type 0) (keep : Bytes → X) (figures : X → Figures) (st : State X) (call : Call) (number place : ℕ)
+    → outcome X keep figures st call .answer ≡ refused number place → ((1 ≤ number) × (number ≤ 15)) ⊎ ((21 ≤ number) × (number ≤ 24))
+in-table X keep figures st call number place e =
+    by-first (within 1 15 number) (within-yes 1 15 number) (subst N.NumberedAnswer e (call-numbered X keep figures st call))
+  where
+    by-first : (t : Bool) → (T t → Within 1 15 number) → T (t || within 21 24 number)
+        → ((1 ≤ number) × (number ≤ 15)) ⊎ ((21 ≤ number) × (number ≤ 24))
+    by-first true first listed = let w = first tt in inl (w .from, w .to)
+    by-first false first listed = let w = within-yes 21 24 number listed in inr (w .from, w .to)
 
 -- ---- over lists of calls the figures answer as the file does, and an empty row is a refused one
 
