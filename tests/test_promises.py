@@ -63,7 +63,7 @@ PINNED = {
     "laws/PinnedPriors":
         "prior-variance-taken accepted-still opened-still row-still same-with-priors phi-alone psi-alone phi-owned psi-owned",
     "laws/Number16":
-        "oneToTen accepted-exactly positive check16 zero-refused no-zero-clear openWith16 alike-without-16 never-16",
+        "oneToTen accepted-exactly positive check16 zero-refused no-zero-clear refuses-no-bytes openWith16 alike-without-16 never-16",
     "row_starts/Pinned": "sixteen cells-counted none-counted",
     "holding/Pinned": "open-file reached-open",
     "opening/Pinned": "open-refused opened-holds as-with-16",
@@ -94,6 +94,7 @@ OF_NUMBERS = {
         "pub positive : oneToTen ≡ clear → (k : ℕ) → k < 2 * lastYear f + 1 → pos 0 <ℤ matrix (chainOf f) k k unfolding",
         "pub zero-refused : (k : ℕ) → k < 2 * lastYear f + 1 → matrix (chainOf f) k k ≡ pos 0 → check16 ≡ refuses 16 0 zero-refused",
         "pub no-zero-clear : ((k : ℕ) → k < 2 * lastYear f + 1 → matrix (chainOf f) k k ≢ pos 0) → check16 ≡ clear no-zero-clear",
+        "| pub refuses-no-bytes : check16 [] ≡ refuses 16 0 | unfolding",
         "| module _ (X : Type 0) (keep : Bytes → X) (figures : X → Figures) where abbrev pub openWith16 : State X → Bytes → Outcome X "
         "openWith16 empty f = openUnless X keep figures (oneToTen f then check16 f) f "
         "openWith16 (holds x μ total) f = answers X keep figures (holds x μ total) (refused 22 0) pub alike-without-16",

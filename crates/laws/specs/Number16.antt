@@ -5,17 +5,20 @@ use Prim.Native.Nat.{ℕ, zero, suc, _+_, _*_, _≤_, _<_, zero-le}
 use mathlib.Core.Path.{_≡_, refl, ap, subst}
 use mathlib.Core.Logic.{_≢_, _⊎_, inl, inr, _↔_}
 use mathlib.Core.Bool.{true, not, false≢true}
+use mathlib.Core.List.{[]}
 use native.Mathlib.Omega.{arith}
 use borrow.Author.Tests.{ne-eqb}
 use lib.Dec.{eqb}
 use lib.IntN.{ℤ, pos, negsuc, natAbs}
 use lib.Signed.{_<ℤ_, <ℤ-irrefl}
 use Rattle.integers.specs.Linear.{linear, zarith}
-use Rattle.definitions.specs.Layout.{Bytes, lastYear}
+use Rattle.integers.specs.Sum.{sum}
+use Rattle.definitions.specs.Layout.{Bytes, lastYear, unsigned, bigEndian}
+use Rattle.definitions.specs.Weight.{weight}
 use Rattle.definitions.specs.Refusals.{Check, clear, refuses, _then_, fields, fileCheck, isClear, accepted}
 use Rattle.definitions.specs.Refusals.{check1, check2, check3, check4, check5, check6, check7, check8, check9, check10}
 use Rattle.definitions.specs.Observations.{chainOf}
-use Rattle.definitions.specs.Matrix.{Figures, matrix}
+use Rattle.definitions.specs.Matrix.{Figures, partOf, own, matrix}
 use Rattle.definitions.specs.Machine.{State, empty, holds, Outcome, refused, Call, answers, openUnless, openCall, outcome}
 use Rattle.laws.specs.ClearChecks.{fields-good, fields-bad}
 use Rattle.laws.specs.Accepted.{accepted-file}
@@ -65,6 +68,11 @@ module _ (f : Bytes) where
       by-check : (c : Check) → oneToTen ≡ c → c then check16 ≡ c
       by-check clear e = no-zero-clear (λ k below none. <ℤ-irrefl (subst (λ z. pos 0 <ℤ z) none (positive e k below)))
       by-check (refuses number place) e = refl
+
+-- 16 did refuse: of bytes that are no file, for one
+pub refuses-no-bytes : check16 [] ≡ refuses 16 0
+unfolding unsigned bigEndian weight sum partOf own matrix
+refuses-no-bytes = zero-refused [] 0 (omega arith) refl
 
 -- for whatever is kept of a file: the file itself, as the specification's machine does, or its figures, as a session does
 module _ (X : Type 0) (keep : Bytes → X) (figures : X → Figures) where
