@@ -56,7 +56,7 @@ pub fn logarithm(amount: u64) -> i64 {
     let h = 63 - amount.leading_zeros();
     let mut y = if h <= 31 { amount << (31 - h) } else { amount >> (h - 31) };
     let mut bits = 0;
-    for _ in 0..20 {
+    for _ in 0..21 {
         let square = y * y;
         if square >= 1 << 63 {
             bits = 2 * bits + 1;
@@ -66,7 +66,7 @@ pub fn logarithm(amount: u64) -> i64 {
             y = square >> 31;
         }
     }
-    i64::from(h) * TICKS + bits
+    (2 * i64::from(h) * TICKS + bits + 1) >> 1
 }
 
 /// A variance of 0 stands for no prior.

@@ -28,9 +28,9 @@
 extern "C" {
 #endif
 
-#define DESK_VERSION "1.5.0"
+#define DESK_VERSION "1.6.0"
 #define DESK_VERSION_MAJOR 1
-#define DESK_VERSION_MINOR 5
+#define DESK_VERSION_MINOR 6
 #define DESK_VERSION_PATCH 0
 
 #define DESK_PAID UINT64_C(0) /* the channels of a row */

@@ -8,6 +8,7 @@ from pathlib import Path
 
 import layout
 import paper
+import rounding
 import script
 import session
 import vectors
@@ -96,6 +97,13 @@ def run_reserves(_arguments: argparse.Namespace) -> int:
     return 0
 
 
+def run_rounding(arguments: argparse.Namespace) -> int:
+    print(f"{rounding.DRAWN:,} amounts drawn: the mean of the logarithm less the exact one, in ticks")
+    for name, error in zip(("cut off", "to the nearest"), rounding.mean_errors(arguments.seed)):
+        print(f"{name:>15} {float(error):8.4f}")
+    return 0
+
+
 def closeness(text: str) -> int:
     value = int(text)
     if not layout.is_inside(value, layout.CLOSENESS_LIMITS):
@@ -141,6 +149,8 @@ def parser() -> argparse.ArgumentParser:
     sample.add_argument("--closeness", type=closeness, default=SAMPLE_CLOSENESS, metavar="E", help="default %(default)s")
     command("cells", run_cells, "print where each row starts, by cells and by bytes: docs/CELLS.md")
     command("reserves", run_reserves, "print the reserves of Tables 10 and 11 beside the paper's")
+    rounded = command("rounding", run_rounding, "print how far logarithms are from the exact ones on average, cut off and to the nearest")
+    rounded.add_argument("--seed", type=int, default=vectors.DEFAULT_SEED, help="default %(default)s")
     return top
 
 

@@ -27,6 +27,20 @@ def file_f(closeness: int = 1) -> File:
     )
 
 
+def logarithm_shown(amount: int, other: int) -> File:
+    """J = 1, without priors: the right-hand side has 64 times the amount's logarithm twice, then that less 64 times the other's."""
+    return File(
+        last=1,
+        closeness=1,
+        sigma2=(1 << 40, 1 << 40),
+        tau2=(1 << 40,),
+        prior_means=(0, 0, 0),
+        prior_variances=(FLAT, FLAT, FLAT),
+        paid=((1, amount), (amount,)),
+        incurred=((other, amount), (amount,)),
+    )
+
+
 def filled_triangle(last: int, amount: Callable[[], int]) -> Triangle:
     return tuple(tuple(amount() for _ in range(last - year + 1)) for year in range(last + 1))
 

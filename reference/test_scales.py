@@ -2,73 +2,95 @@
 
 import unittest
 from fractions import Fraction
+from math import log2
 from random import Random
 
+from rounding import exact_ticks, mean_errors, power_bounds
 from scales import TICKS_PER_DOUBLING as T
-from scales import logarithm, weight
-
-
-def power_bounds(amount: int, bits: int = 128) -> tuple[int, int, int]:
-    """Whole numbers low, high, exponent with low*2^exponent <= amount^T <= high*2^exponent.
-
-    Twenty squarings; the two numbers are cut to `bits` bits each time, one down and the other up.
-    """
-    low, high, exponent = amount, amount, 0
-    for _ in range(20):
-        low, high, exponent = low * low, high * high, 2 * exponent
-        cut = max(high.bit_length() - bits, 0)
-        low, high, exponent = low >> cut, -(-high >> cut), exponent + cut
-    return low, high, exponent
+from scales import half_ticks, logarithm, weight
 
 
 def by_the_words(amount: int) -> int:
     """The specification's logarithm read once more, with divisions instead of shifts and its bits as a text."""
-    whole = max(h for h in range(41) if 2**h <= amount)
+    return (half_ticks_by_the_words(amount, 21) + 1) // 2
+
+
+def half_ticks_by_the_words(amount: int, squarings: int) -> int:
+    """With 21 squarings; with 20 they are whole ticks."""
+    whole = max(h for h in range(64) if 2**h <= amount)
     y = amount * 2 ** (31 - whole) if whole <= 31 else amount // 2 ** (whole - 31)
     bits = ""
-    for _ in range(20):
+    for _ in range(squarings):
         if y * y >= 2**63:
             bits, y = bits + "1", y * y // 2**32
         else:
             bits, y = bits + "0", y * y // 2**31
-    return whole * T + int(bits, 2)
+    return whole * 2**squarings + int(bits, 2)
+
+
+def drawn_amounts(seed: int, count: int) -> list[int]:
+    """So many of each number of bits up to 64, and those beside the powers of two."""
+    rng = Random(seed)
+    drawn = [rng.randint(1, (1 << bits) - 1) for bits in range(1, 65) for _ in range(count)]
+    return drawn + [(1 << h) + d for h in range(2, 65) for d in (-1, 0, 1) if (1 << h) + d < 1 << 64]
 
 
 class Logarithm(unittest.TestCase):
     def test_figures_of_the_document(self) -> None:
-        figures = {1: 0, 1 << 40: 41_943_040, 3: 1_661_953, 5: 2_434_718}
+        figures = {1: 0, 1 << 40: 41_943_040, 3: 1_661_954, 5: 2_434_718}
         self.assertEqual({amount: logarithm(amount) for amount in figures}, figures)
 
     def test_powers_of_two_are_whole_doublings(self) -> None:
-        self.assertEqual([logarithm(1 << h) for h in range(41)], [h * T for h in range(41)])
+        self.assertEqual([logarithm(1 << h) for h in range(64)], [h * T for h in range(64)])
+        self.assertEqual(logarithm((1 << 64) - 1), 64 * T)
 
     def test_bound_by_the_power_itself(self) -> None:
         for amount in (1, 2, 3, 5, 6, 7, 10):
-            power, ticks = amount**T, logarithm(amount)
-            self.assertTrue(1 << ticks <= power < 1 << (ticks + 2), amount)
+            power, ticks = amount ** (2 * T), logarithm(amount)
+            self.assertTrue(1 << 2 * ticks <= 2 * power < 1 << (2 * ticks + 3), amount)
 
-    def test_bound_by_intervals(self) -> None:
-        rng = Random(1)
-        near_powers = [(1 << h) + d for h in range(2, 41) for d in (-1, 0, 1) if (1 << h) + d <= 1 << 40]
-        drawn = [rng.randint(1, 1 << rng.randint(1, 40)) for _ in range(3_000)]
-        for amount in [*range(1, 3_000), *near_powers, *drawn]:
-            low, high, exponent = power_bounds(amount)
-            ticks = logarithm(amount)
-            self.assertLessEqual(1 << (ticks - exponent), low, amount)
-            self.assertLess(high, 1 << (ticks + 2 - exponent), amount)
+    def test_bounds_by_intervals(self) -> None:
+        for amount in [*range(1, 3_000), *drawn_amounts(1, 50)]:
+            low, high, exponent = power_bounds(amount, 21)
+            unit = 1 << (2 * logarithm(amount) - exponent)
+            self.assertLessEqual(unit, 2 * low, amount)
+            self.assertLess(2 * high, 8 * unit, amount)
+            self.assertLess(511 * high, 512 * 2 * unit, amount)
 
     def test_reads_as_the_document(self) -> None:
-        rng = Random(2)
         # Amounts from 2^32 on lose their lowest bits before the first squaring.
         # Few amounts tell a floor on the way from another rounding, so many are drawn.
-        drawn = [rng.randint(1, 1 << bits) for bits in range(1, 41) for _ in range(500)]
-        for amount in drawn + [(1 << 33) - 1, (1 << 33) + 1, (1 << 40) - 1]:
+        for amount in drawn_amounts(2, 300):
             self.assertEqual(logarithm(amount), by_the_words(amount), amount)
+
+    def test_grows_with_the_amount(self) -> None:
+        amounts = sorted(drawn_amounts(3, 50))
+        logarithms = list(map(logarithm, amounts))
+        self.assertEqual(logarithms, sorted(logarithms))
 
     def test_no_amount_is_below_one(self) -> None:
         for amount in (0, -1):
             with self.assertRaises(ValueError):
                 logarithm(amount)
+
+
+class Rounding(unittest.TestCase):
+    def test_the_exact_logarithm_is_between(self) -> None:
+        for amount in (1, 2, 3, 5, 1_000_003, (1 << 40) - 1, 1 << 40):
+            low, high = exact_ticks(amount)
+            self.assertLessEqual(high - low, Fraction(2, 1 << 32))
+            self.assertAlmostEqual(float(low), T * log2(amount), delta=1e-7)
+
+    def test_cut_off_they_are_of_one_squaring_less(self) -> None:
+        for amount in drawn_amounts(4, 50):
+            self.assertEqual(half_ticks(amount) // 2, half_ticks_by_the_words(amount, 20), amount)
+
+    def test_cut_off_they_lose_half_a_tick_and_rounded_none(self) -> None:
+        """The mean of 10,000 is off by some thousandths of a tick, as it is drawn."""
+        for seed in (1, 2):
+            cut, nearest = mean_errors(seed)
+            self.assertLess(abs(cut + Fraction(1, 2)), Fraction(1, 100))
+            self.assertLess(abs(nearest), Fraction(1, 100))
 
 
 class Weight(unittest.TestCase):

@@ -17,8 +17,10 @@ import session
 from board_page import board_page
 from listing import listing
 from page import page_length, part_names
+from rounding import DRAWN, mean_errors
 from scales import TICKS_PER_DOUBLING as T
 from scales import logarithm, weight
+from vectors import DEFAULT_SEED
 
 ROOT = Path(__file__).resolve().parent.parent
 README = (ROOT / "README.md").read_text()
@@ -126,6 +128,12 @@ class Examples(unittest.TestCase):
         self.assertEqual((weight(1 << 18), weight(1 << 46), weight(0)), (1 << 28, 1, 0))
         said = "2^28 for 2^18, 1 for 2^46. The weight of 0, the variance of a part without a prior, is 0."
         self.assert_said("From amounts to the loss", said)
+
+    def test_what_rounding_is_for(self) -> None:
+        self.assertEqual(layout.AMOUNT_LIMITS, (1, 1 << 40))
+        cut, nearest = (f"{float(error):.3f}".replace("-", "−") for error in mean_errors(DEFAULT_SEED))
+        self.assert_said("From amounts to the loss", f"over {DRAWN:,} amounts drawn from 1 to 2^40 the mean of log a less the "
+                                                     f"exact logarithm is {nearest} ticks, where cut off, as floor(L' / 2), it is {cut} ")
 
     def test_of_file_f(self) -> None:
         weights = chain.weights_of(samples.file_f())

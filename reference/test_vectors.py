@@ -63,6 +63,12 @@ class Made(unittest.TestCase):
         for size in (0, 83, 867):
             self.assertIn(b"p" + size.to_bytes(4, "big"), given)
 
+    def test_logarithms(self) -> None:
+        """64 times that of 1, 3, 5 and 2^40 stands in a right-hand side, as the first number and the second."""
+        printed = self.made["calls/scenes"].printed.decode().splitlines()
+        for ticks in (0, 1_661_954, 2_434_718, 41_943_040):
+            self.assertTrue(any(line.startswith(f"right {64 * ticks} {64 * ticks} ") for line in printed), ticks)
+
     def test_no_file_is_kept_for_two_contents(self) -> None:
         """Programs share inputs, of which each is kept once."""
         kept = {}
@@ -97,7 +103,7 @@ class Made(unittest.TestCase):
             self.assertEqual(vectors.paths(f"{program}/tables-256"), kept)
 
     def test_small_enough_to_keep(self) -> None:
-        self.assertLess(sum(len(vector.given + vector.printed) for vector in self.made.values()), 1_500_000)
+        self.assertLess(sum(map(len, vectors.files_of(self.made).values())), 1_500_000)
 
     def test_made_again_they_are_the_same(self) -> None:
         self.assertEqual(vectors.make(vectors.DEFAULT_SEED), self.made)

@@ -77,7 +77,7 @@ def paths(name: str) -> tuple[str, str]:
 
 
 def write(root: Path, made: Vectors) -> None:
-    for name, content in _files(made).items():
+    for name, content in files_of(made).items():
         path = root / name
         path.parent.mkdir(parents=True, exist_ok=True)
         path.write_bytes(content)
@@ -85,7 +85,7 @@ def write(root: Path, made: Vectors) -> None:
 
 def differences(root: Path, made: Vectors) -> list[str]:
     """One line for each file that is missing, differs, or is there and no longer made."""
-    lines, files = [], _files(made)
+    lines, files = [], files_of(made)
     for name, content in files.items():
         path = root / name
         if not path.is_file():
@@ -97,7 +97,7 @@ def differences(root: Path, made: Vectors) -> list[str]:
     return lines + [f"{path}: no such vector is made" for path in strays]
 
 
-def _files(made: Vectors) -> dict[str, bytes]:
+def files_of(made: Vectors) -> dict[str, bytes]:
     files = {}
     for name, vector in made.items():
         given, printed = paths(name)

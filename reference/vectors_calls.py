@@ -25,11 +25,15 @@ from vectors_listing import TABLES_CLOSENESSES
 
 LARGEST_NUMBER = (1 << 32) - 1
 
+# Powers of two and those beside them, above 32 bits too; 3 is rounded up, 5 down; 2,411 is more than half a tick above its logarithm.
+LOGARITHMS_OF = (1, 2, 3, 5, 2_411, (1 << 31) - 1, (1 << 32) - 1, (1 << 32) + 1, (1 << 33) - 1, (1 << 33) + 1, (1 << 40) - 1, 1 << 40)
+
 
 def script_of_scenes(seed: int, drawn_sessions: int = 60) -> bytes:
     rng, flat = Random(f"calls {seed}"), Random(f"calls without priors {seed}")
     scenes: list[Iterable[bytes]] = [
         figures_of_document(),
+        logarithms_shown(),
         state_refusals(),
         sweep_numbers(),
         judge_refusals(),
@@ -91,6 +95,11 @@ def figures_of_document() -> Iterator[bytes]:
     f = build_file(samples.file_f())
     yield call_open(put(f, 86, 0, 8))
     yield call_open(put(f, 102, 1 << 12, 8))
+
+
+def logarithms_shown() -> Iterator[bytes]:
+    for amount, other in zip(LOGARITHMS_OF, LOGARITHMS_OF[1:] + LOGARITHMS_OF[:1]):
+        yield from (call_open(build_file(samples.logarithm_shown(amount, other))), FIGURES, CLOSE)
 
 
 def state_refusals() -> Iterator[bytes]:

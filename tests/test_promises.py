@@ -57,8 +57,9 @@ INSIDE = " ensures { λ r. ⌜ (r .end ≤ length (r .bytes)) × (r .end ≡ len
 PINNED = {
     "laws/Pinned":
         "Each Worth nearly-least near strictly-least worth Near room limits m u some exact half rounded at-the-bound near-passes "
-        "logarithm-within-two-ticks Machine opens judges judges-alone sweeps reads reads-alone pages pages-alone shows "
-        "tells closes machine in-table same-outcomes row-empty larger-logarithm loss-around divided-fits paid-sum-fits incurred-sum-fits",
+        "Machine opens judges judges-alone sweeps reads reads-alone pages pages-alone shows tells closes machine in-table same-outcomes "
+        "row-empty loss-around divided-fits paid-sum-fits incurred-sum-fits",
+    "laws/PinnedLogarithms": "logarithm-bounded logarithm-nearest larger-logarithm one-tick-at-most largest-logarithm",
     "laws/PinnedPage": "page-bytes name-on-page index-on-page ticks-on-page weight-on-page spaces-on-page never-shared",
     "laws/PinnedPriors":
         "prior-variance-taken accepted-still opened-still row-still same-with-priors phi-alone psi-alone phi-owned psi-owned",
@@ -85,8 +86,8 @@ PINNED = {
         "write-worth",
 }
 
-# Of number 16, and of the numbers that there are, what is said to the letter: no definition has it, so that nothing else holds it.
-OF_NUMBERS = {
+# Of number 16, of the numbers that there are and of the logarithm, what is said to the letter: no contract has it, so that nothing else holds it.
+TO_THE_LETTER = {
     "laws/Number16": (
         "| module _ (f : Bytes) where abbrev pub oneToTen : Check oneToTen = check1 f then check2 f then check3 f then check4 f "
         "then check5 f then check6 f then check7 f then check8 f then check9 f then check10 f pub accepted-exactly",
@@ -100,6 +101,18 @@ OF_NUMBERS = {
         "openWith16 (holds x μ total) f = answers X keep figures (holds x μ total) (refused 22 0) pub alike-without-16",
         "pub alike-without-16 : (st : State X) (f : Bytes) → openWith16 st f ≡ openCall X keep figures st f unfolding",
         "pub never-16 : (st : State X) (call : Call) (place : ℕ) → outcome X keep figures st call .answer ≢ refused 16 place never-16",
+    ),
+    "definitions/JointTable": (
+        "pub log-of-1 : logarithm 1 ≡ 0 pub log-of-2^40 : logarithm (2 ^ 40) ≡ 41943040 pub log-of-3 : logarithm 3 ≡ 1661954 pub weight-of",
+    ),
+    "laws/PinnedLogarithms": (
+        "| pub logarithm-bounded : (a : ℕ) → 1 ≤ a → a < 2 ^ 64 "
+        "→ (2 ^ (2 * logarithm a) ≤ 2 * a ^ 2097152) × (2 * a ^ 2097152 < 2 ^ (2 * logarithm a + 3)) | logarithm-bounded",
+        "| pub logarithm-nearest : (a : ℕ) → 1 ≤ a → a < 2 ^ 64 → 511 * a ^ 2097152 < 512 * 2 ^ (2 * logarithm a + 1) | logarithm-nearest",
+        "| pub larger-logarithm : (a b : ℕ) → 1 ≤ a → a ≤ b → b < 2 ^ 64 → logarithm a ≤ logarithm b | larger-logarithm",
+        "| pub one-tick-at-most : (a : ℕ) → let cut : ℕ = highestBit a * 1048576 + bitsOf 20 (startFrom (highestBit a) a) 0 in "
+        "(cut ≤ logarithm a) × (logarithm a ≤ cut + 1) | one-tick-at-most",
+        "| pub largest-logarithm : (a : ℕ) → 1 ≤ a → a ≤ 2 ^ 40 → logarithm a ≤ 41943040 | largest-logarithm",
     ),
     "laws/Pinned": (
         "| pub in-table : (X : Type 0) (keep : Bytes → X) (figures : X → Figures) (st : State X) (call : Call) (number place : ℕ) "
@@ -150,8 +163,8 @@ class Promises(unittest.TestCase):
             text = text_of("crates/{}/specs/{}.antt".format(*file.split("/")))
             self.assertEqual(re.findall(r"^ *(?:abbrev )?pub (?:record )?(\S+)", text, re.MULTILINE), names.split(), file)
 
-    def test_what_is_said_of_16_and_of_the_other_numbers(self) -> None:
-        for file, said in OF_NUMBERS.items():
+    def test_what_is_said_to_the_letter(self) -> None:
+        for file, said in TO_THE_LETTER.items():
             text = re.sub(r"--.*", "", text_of("crates/{}/specs/{}.antt".format(*file.split("/"))))
             lines = " ".join(re.sub(r"\n(?=\S)", " | ", text).split())  # with a bar before whatever stands in no module
             for words in said:

@@ -9,7 +9,7 @@ use lib.Count.{leadingZeros}
 use lib.ListN.{replicate}
 use Rattle.integers.specs.Summation.{sum, total}
 use Rattle.definitions.specs.Words.{tabFrom, part}
-use Rattle.definitions.specs.Logarithm.{logarithm, bitsOf, highestBit, startFrom, nextBit, nextY}
+use Rattle.definitions.specs.Logarithm.{logarithm, halfTicks, bitsOf, highestBit, startFrom, nextBit, nextY}
 use Rattle.definitions.specs.Weight.{weight}
 use Rattle.definitions.specs.Layout.{Bytes, bigEndian, unsigned, twosComplement, rowStart}
 use Rattle.definitions.specs.Refusals.{refuses, fields, check1, check2, check3, check4, check5, check6, check7, check8, check9, check10, fileCheck}
@@ -96,7 +96,7 @@ pageOfF st size = pageCall Figures figuresOf (λ G. G) st (replicate size 165)
 pub record JointTable : Type 0 where
   pub log-of-1 : logarithm 1 ≡ 0
   pub log-of-2^40 : logarithm (2 ^ 40) ≡ 41943040
-  pub log-of-3 : logarithm 3 ≡ 1661953
+  pub log-of-3 : logarithm 3 ≡ 1661954
   pub weight-of-2^18 : weight (2 ^ 18) ≡ 2 ^ 28
   pub weight-of-2^46 : weight (2 ^ 46) ≡ 1
   pub F-accepted : accepted (fileF 1) ≡ true
@@ -165,7 +165,7 @@ pub record JointTable : Type 0 where
   pub prior-variance-above : fileCheck (fileOf 1 10T-in-4 0-in-8 0-in-8 above-2^46-in-8) ≡ refuses 7 62
 
 pub jointTable : JointTable
-unfolding leadingZeros sum total tabFrom logarithm bitsOf highestBit startFrom nextBit nextY weight bigEndian unsigned
+unfolding leadingZeros sum total tabFrom logarithm halfTicks bitsOf highestBit startFrom nextBit nextY weight bigEndian unsigned
     twosComplement rowStart fields check1 check2 check3 check4 check5 check6 check7 check8 check9 check10 fileCheck
     ratioVariance paidStep incurredStep lastRatio figuresOf partOf own matrix rightHand residue judgeFrom
     ascii decimalFrom signedDecimal aligned nameOf indexOf lines pageLine partLine openCall sweepCall writeCall

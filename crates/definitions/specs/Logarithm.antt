@@ -1,4 +1,4 @@
--- Specification, "From amounts to the loss": the logarithm of an amount, in ticks. The number of squarings is a parameter.
+-- Specification, "From amounts to the loss": the logarithm of an amount, to the nearest tick. The number of squarings is a parameter.
 use Prim.Native.Nat.{ℕ, zero, suc, _+_, _*_, _-_, _/_, _^_}
 use mathlib.Core.Bool.{cond}
 use lib.Dec.{leb}
@@ -28,10 +28,14 @@ unfoldable pub bitsOf : ℕ → ℕ → ℕ → ℕ
 bitsOf zero y l = l
 bitsOf (suc k) y l = bitsOf k (nextY y) (2 * l + nextBit y)
 
--- twenty times
+-- 21 times: one bit more than a tick needs
 abbrev pub squarings : ℕ
-squarings = 20
+squarings = 21
 
--- L: h·T plus the twenty bits
+-- L': 2h·T plus the 21 bits, a number of half ticks
+unfoldable pub halfTicks : ℕ → ℕ
+halfTicks a = 2 * highestBit a * ticksPerDoubling + bitsOf squarings (startFrom (highestBit a) a) 0
+
+-- L: floor((L' + 1) / 2)
 unfoldable pub logarithm : ℕ → ℕ
-logarithm a = highestBit a * ticksPerDoubling + bitsOf squarings (startFrom (highestBit a) a) 0
+logarithm a = (halfTicks a + 1) / 2

@@ -11,15 +11,14 @@ use Rattle.integers.specs.Sum.{sum}
 use Rattle.integers.specs.SumRange.{only-same, only-apart}
 use Rattle.integers.specs.Total.{total-bound, total-term, sizes, sum-size}
 use Rattle.definitions.specs.Layout.{Bytes, lastYear, closeness, parts, psiIndex, cells, rowStart, paid, incurred}
-use Rattle.definitions.specs.Logarithm.{logarithm, squarings}
+use Rattle.definitions.specs.Logarithm.{logarithm}
 use Rattle.definitions.specs.Refusals.{amountLimit, partLimit}
 use Rattle.definitions.specs.Loss.{Vector}
 use Rattle.definitions.specs.Observations.{Chain, chainOf, paidStep, incurredStep, lastRatio}
 use Rattle.definitions.specs.Matrix.{own, matrix, rightHand, residueTimes}
 use Rattle.laws.specs.Cells.{cell-below}
 use Rattle.laws.specs.Accepted.{AcceptedFile, Within}
-use Rattle.laws.specs.LogarithmBits.{logarithm-run}
-use Rattle.laws.specs.LogarithmBound.{logIn-at-most}
+use Rattle.laws.specs.LogarithmBound.{logarithm-at-most}
 use Rattle.laws.specs.PrecisionMatrix.{firstsOf}
 use Rattle.laws.specs.Sizes.{Limits, row-limit, entry-limit, target-limit, residue-limit}
 use Rattle.laws.specs.FileBounds.{observedLimit, ownLimit, shareLimit, p-to, q-to, g-to, prior-to, by-own}
@@ -28,7 +27,7 @@ use Rattle.laws.specs.FileBounds.{observedLimit, ownLimit, shareLimit, p
 
 -- 2^40 is the limit of an amount, and 40 doublings are fewer than 2^26 ticks
 pub logarithm-limit : (a : ℕ) → Within 1 amountLimit a → logarithm a ≤ observedLimit
-logarithm-limit a range = omega (arith, logarithm-run a, logIn-at-most squarings a 40 (omega arith) (range .from) (range .to) (omega arith))
+logarithm-limit a range = omega (arith, logarithm-at-most a 40 (range .from) (range .to) (omega arith))
 
 -- the difference of two numbers of one limit is within the limit
 difference-limit : {a b m : ℕ} → a ≤ m → b ≤ m → natAbs (pos a -ℤ pos b) ≤ m

@@ -1,9 +1,10 @@
 -- What follows from the definitions: why the promises hold. To search, not to read.
 --   Tables            a tabulated list: its length, its elements, and two with the same
 --   Filled            an array that is filled from the front
---   LogarithmBits     the bits stand behind h, and are below T
---   LogarithmBound    2^L ≤ a^T < 2^(L+2), for any number of squarings; a logarithm is at most that of the limit
+--   LogarithmBits     the bits stand behind h, so many of them; L is rounded by the last
+--   LogarithmBound    2^(2L) ≤ 2·a^(2T) < 2^(2L+3), by a law of any number of squarings; a logarithm is at most that of the limit
 --   LogarithmOrder    the larger the amount, the larger its logarithm
+--   PinnedLogarithms  all three once more, in plain numbers
 --   WeightLaws        the weight is positive, falls as the variance grows, and where it lies
 --   Cells             the start of each row, by document 02's formula and table; rows and cells are inside their block
 --   ClearChecks       what a clear check says of its parts; two checks side by side
@@ -41,6 +42,7 @@ pub mod Filled
 pub mod LogarithmBits
 pub mod LogarithmBound
 pub mod LogarithmOrder
+pub mod PinnedLogarithms
 pub mod WeightLaws
 pub mod Cells
 pub mod ClearChecks

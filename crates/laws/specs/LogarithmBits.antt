@@ -1,11 +1,11 @@
--- The logarithm run as one number: h first, and each squaring puts its bit behind the bits so far.
-use Prim.Native.Nat.{ℕ, zero, suc, _+_, _*_, _^_, _≤_, _<_}
+-- The logarithm run as one number: h first, and each squaring puts its bit behind the bits so far. The last of them rounds it.
+use Prim.Native.Nat.{ℕ, zero, suc, _+_, _*_, _/_, _^_, _≤_, _<_}
 use mathlib.Core.Path.{_≡_, sym, ap, _∙_}
 use mathlib.Core.Bool.{Bool, true, false, cond}
 use native.Mathlib.Nat.{two-pow-succ, mul-le-mul-right}
 use native.Mathlib.Omega.{arith}
 use lib.Dec.{leb}
-use Rattle.definitions.specs.Logarithm.{highestBit, startFrom, nextBit, nextY, bitsOf, squarings, logarithm}
+use Rattle.definitions.specs.Logarithm.{ticksPerDoubling, highestBit, startFrom, nextBit, nextY, bitsOf, squarings, halfTicks, logarithm}
 
 -- h, and behind it the bits of k squarings
 abbrev pub logIn : ℕ → ℕ → ℕ
@@ -39,6 +39,28 @@ bits-few (suc k) y =
     let first : bitsOf (suc k) y 0 ≡ (0 + nextBit y) * 2 ^ k + bitsOf k (nextY y) 0 = bits-behind k (nextY y) (2 * 0 + nextBit y) in
     omega (arith, first, bits-few k (nextY y), mul-le-mul-right (2 ^ k) (nextBit-small y), two-pow-succ k)
 
-pub logarithm-run : (a : ℕ) → logarithm a ≡ logIn squarings a
+-- L' is h and all the bits
+pub halfTicks-run : (a : ℕ) → halfTicks a ≡ logIn squarings a
+unfolding halfTicks
+halfTicks-run a =
+    let y = startFrom (highestBit a) a in
+    omega (arith, bits-behind squarings y (highestBit a))
+
+-- and L is rounded from them
+pub logarithm-run : (a : ℕ) → logarithm a ≡ (logIn squarings a + 1) / 2
 unfolding logarithm
-logarithm-run a = sym (bits-behind squarings (startFrom (highestBit a) a) (highestBit a))
+logarithm-run a = ap (λ n. (n + 1) / 2) (halfTicks-run a)
+
+-- one squaring more puts one bit more behind the others
+last-bit : (k y l : ℕ) → (2 * bitsOf k y l ≤ bitsOf (suc k) y l) × (bitsOf (suc k) y l ≤ 2 * bitsOf k y l + 1)
+unfolding bitsOf
+last-bit zero y l = (omega arith, omega (arith, nextBit-small y))
+last-bit (suc k) y l = last-bit k (nextY y) (2 * l + nextBit y)
+
+-- so L is the logarithm of one squaring less, in whole ticks and cut off, or one more: it is rounded up exactly where the last bit is 1
+pub beside-the-cut : (a : ℕ) → let cut : ℕ = highestBit a * ticksPerDoubling + bitsOf 20 (startFrom (highestBit a) a) 0 in
+    (cut ≤ logarithm a) × (logarithm a ≤ cut + 1)
+unfolding logarithm halfTicks
+beside-the-cut a =
+    let last = last-bit 20 (startFrom (highestBit a) a) 0 in
+    (omega (arith, last .0), omega (arith, last .1))

@@ -1,11 +1,13 @@
--- The specification's claim about the logarithm: 2^L ≤ a^T < 2^(L+2). It holds for any number k of squarings up to 28, T being 2^k.
+-- The specification's claims about the logarithm, with L rounded from the bits L' of 21 squarings: 2^(2L) ≤ 2·a^(2T) < 2^(2L+3), and
+-- sharper above, 511·a^(2T) < 512·2^(2L+1). They are drawn from a law of any number k of squarings up to 28, l being their bits and t
+-- 2^k: 2^l ≤ a^t < 2^(l+2).
 --
 -- After each squaring y and the bits l so far bracket the power p of the amount: 2^l·y ≤ p·N, and p·N·N^c ≤ 2^l·y·(N + 1)^c, where
 -- N is 2^31 and c counts the roundings so far, of which a squaring doubles those before it and adds one.
 use Prim.Native.Nat.{ℕ, zero, suc, _+_, _*_, _-_, _/_, _^_, _≤_, _<_}
 use mathlib.Core.Path.{_≡_, refl, sym, ap, _∙_, subst}
 use mathlib.Core.Bool.{Bool, true, false, not, cond}
-use native.Mathlib.Nat.{mul-zero, mul-suc, le-trans, le-of-eq, mul-le-mul, mul-le-mul-left, mul-le-mul-right}
+use native.Mathlib.Nat.{mul-zero, mul-suc, le-trans, le-of-eq, lt-of-lt-of-le, mul-le-mul, mul-le-mul-left, mul-le-mul-right}
 use native.Mathlib.Nat.{le-of-mul-le-mul-left, lt-of-mul-lt-mul-left, div-mul-le-self, lt-div-mul-add, le-div-iff-mul-le, div-lt-iff-lt-mul}
 use native.Mathlib.Nat.{pow-zero, pow-suc, pow-le-pow-left, one-le-pow, two-pow-succ}
 use native.Mathlib.Omega.{arith, by-contra}
@@ -38,7 +40,7 @@ module _ (n p L y z B P Q : ℕ) where
       le-of-mul-le-mul-left {k = n} (omega (arith, mul-le-mul-left n d, mul-le-mul-left (n * B) from)) pos in
       omega (arith, mul-le-mul h h, mul-le-mul-left (L * L * Q * Q) rounded)
 
--- ---- the end: 2^l ≤ p < 2^(l+2), as (N + 1)^c is at most twice N^c while 2·c ≤ N
+-- ---- the end: 2^l ≤ p < 2^(l+2), as (N + 1)^c is at most N / (N − c) times N^c, which is twice it or less while 2·c ≤ N
 
 few-roundings : (n c d : ℕ) → c + d ≡ n → (n + 1) ^ c * d ≤ n ^ c * n
 few-roundings n zero d e = rw (pow-zero (n + 1), pow-zero n) (omega arith)
@@ -53,21 +55,22 @@ few-roundings n (suc c) d e =
 ends-low : {p l y c : ℕ} → Bracket p l y c → 2 ^ l ≤ p
 ends-low {p} {l} {y} b = le-of-mul-le-mul-left {k = N} (omega (arith, b .low, mul-le-mul-left (2 ^ l) (b .from-N))) (pow-pos 31)
 
+ends-near : {p l y c : ℕ} → Bracket p l y c → c ≤ N → (N - c) * p < N * 2 ^ (l + 1)
+ends-near {p} {l} {y} {c} b few =
+    rw (pow-add 2 l 1)
+    (lt-of-mul-lt-mul-left (N * N ^ c)
+    (strictly N p (2 ^ l) y (N ^ c) ((N + 1) ^ c) (N - c) (b .high) (b .to-2N) (few-roundings N c (N - c) (omega arith))
+    (mul-le-mul (mul-le-mul (pow-pos l) (one-le-pow c N (lit< tt))) (pow-pos 31))))
+  where
+    strictly : (n p L y P Q d : ℕ) → p * n * P ≤ L * y * Q → y < 2 * n → Q * d ≤ P * n → 1 * 1 * 1 ≤ L * P * n
+        → n * P * (d * p) < n * P * (n * (L * 2))
+    strictly n p L y P Q d h small q positive =
+        omega (arith, mul-le-mul-left d h, mul-le-mul-left (L * y) q, mul-le-mul-left (L * P * n) small)
+
 ends-high : {p l y c : ℕ} → Bracket p l y c → 2 * c ≤ N → p < 2 ^ (l + 2)
 ends-high {p} {l} {y} {c} b few =
-    let twice : (N + 1) ^ c ≤ 2 * N ^ c = twice-at-most N c (pow-pos 31) few in
-    rw (pow-add 2 l 2)
-    (lt-of-mul-lt-mul-left (N * N ^ c)
-    (strictly N p (2 ^ l) y (N ^ c) ((N + 1) ^ c) (b .high) (b .to-2N) twice (mul-le-mul (pow-pos l) (one-le-pow c (N + 1) (lit< tt)))))
-  where
-    twice-at-most : (n c : ℕ) → 0 < n → 2 * c ≤ n → (n + 1) ^ c ≤ 2 * n ^ c
-    twice-at-most n c h few =
-        let half : n ≤ 2 * (n - c) = omega arith in
-        le-of-mul-le-mul-left {k = n}
-        (omega (arith, few-roundings n c (n - c) (omega arith), mul-le-mul-left ((n + 1) ^ c) half)) h
-
-    strictly : (n p L y P Q : ℕ) → p * n * P ≤ L * y * Q → y < 2 * n → Q ≤ 2 * P → 1 * 1 ≤ L * Q → n * P * p < n * P * (L * 4)
-    strictly n p L y P Q h small q positive = omega (arith, mul-le-mul-left (L * Q) small, mul-le-mul-left (2 * n * L) q)
+    let half : N ≤ 2 * (N - c) = omega arith in
+    lt-of-mul-lt-mul-left N (omega (arith, ends-near b (omega arith), mul-le-mul-right p half, pow-add 2 l 2, pow-add 2 l 1))
 
 -- ---- one squaring by the definition
 
@@ -193,10 +196,11 @@ module _ (a h : ℕ) (from : 2 ^ h ≤ a) (to : a < 2 ^ suc h) where
 
 -- ---- the logarithm
 
--- with t ticks to a doubling: 2^l ≤ a^t < 2^(l + 2)
+-- with t of the bits' units to a doubling: 2^l ≤ a^t < 2^(l + 2), and sharper above the fewer squarings there are
 pub record LogarithmBound (a t l : ℕ) : Type 0 where
   pub at-least : 2 ^ l ≤ a ^ t
   pub less-than : a ^ t < 2 ^ (l + 2)
+  pub nearly : (2 ^ 31 + 1 - 2 * t) * a ^ t < 2 ^ 31 * 2 ^ (l + 1)
 
 -- for an amount of 64 bits and up to 28 squarings
 pub logIn-bound : (k a : ℕ) → k ≤ 28 → 1 ≤ a → a < 2 ^ 64 → LogarithmBound a (2 ^ k) (logIn k a)
@@ -206,9 +210,12 @@ logIn-bound k a few one small =
     let place : highestBit a ≡ top .0 = omega (arith, top .1) in
     let start = started a (highestBit a) (rw place (top .2)) (rw place (top .3)) in
     let after = all-squarings k start in
+    let rounded : roundings k 1 + 1 ≡ 2 * 2 ^ k = omega (arith, roundings-are k 1) in
+    let left : 2 ^ 31 + 1 - 2 * 2 ^ k ≡ N - roundings k 1 = omega arith in
     record {
       at-least = ends-low (after .bracket);
-      less-than = ends-high (after .bracket) (omega (arith, roundings-are k 1, pow-mono few));
+      less-than = ends-high (after .bracket) (omega (arith, pow-mono few));
+      nearly = rw left (ends-near (after .bracket) (omega (arith, pow-mono few)));
     }
 
 -- an amount of at most 2^b has a logarithm of at most b doublings
@@ -226,6 +233,31 @@ logIn-at-most k a b few one small short =
     power-of-power b (suc n) =
         pow-suc (2 ^ b) n ∙ ap (λ x. x * 2 ^ b) (power-of-power b n) ∙ sym (pow-add 2 (b * n) b) ∙ ap (λ n. 2 ^ n) (sym (mul-suc b n))
 
--- the specification's bound, with its T
-pub logarithm-bound : (a : ℕ) → 1 ≤ a → a < 2 ^ 64 → LogarithmBound a ticksPerDoubling (logarithm a)
-logarithm-bound a one small = rw (logarithm-run a) (logIn-bound squarings a (omega arith) one small)
+-- ---- rounded from half ticks
+
+-- the specification's bound, with t ticks to a doubling; and the sharper one
+pub record NearestTick (a t l : ℕ) : Type 0 where
+  pub at-least : 2 ^ (2 * l) ≤ 2 * a ^ (2 * t)
+  pub less-than : 2 * a ^ (2 * t) < 2 ^ (2 * l + 3)
+  pub nearly : (2 ^ 31 + 1 - 2 * (2 * t)) * a ^ (2 * t) < 2 ^ 31 * 2 ^ (2 * l + 1)
+
+-- l half ticks are 2·(l rounded) of them, or one fewer
+pub to-the-nearest : (a t l : ℕ) → LogarithmBound a (2 * t) l → NearestTick a t ((l + 1) / 2)
+to-the-nearest a t l bound =
+    let up : 2 * ((l + 1) / 2) ≤ l + 1 = omega arith in
+    let down : l ≤ 2 * ((l + 1) / 2) = omega arith in
+    record {
+      at-least = le-trans (pow-mono up) (omega (arith, pow-add 2 l 1, bound .at-least));
+      less-than =
+          lt-of-lt-of-le (omega (arith, pow-add 2 l 2, pow-add 2 l 3, bound .less-than)) (pow-mono {i = l + 3} (omega arith));
+      nearly = lt-of-lt-of-le (bound .nearly) (mul-le-mul-left (2 ^ 31) (pow-mono {i = l + 1} (omega arith)));
+    }
+
+-- of every amount of 64 bits
+pub logarithm-bound : (a : ℕ) → 1 ≤ a → a < 2 ^ 64 → NearestTick a ticksPerDoubling (logarithm a)
+logarithm-bound a one small =
+    rw (logarithm-run a) (to-the-nearest a ticksPerDoubling (logIn squarings a) (logIn-bound squarings a (omega arith) one small))
+
+-- an amount of at most 2^b has a logarithm of at most b doublings
+pub logarithm-at-most : (a b : ℕ) → 1 ≤ a → a ≤ 2 ^ b → b < 64 → logarithm a ≤ b * ticksPerDoubling
+logarithm-at-most a b one small short = omega (arith, logarithm-run a, logIn-at-most squarings a b (omega arith) one small short)

@@ -68,5 +68,6 @@ logIn-grows k a b one most small =
     by-place (inl same) = inr (same, subst (λ h. startFrom (highestBit a) a ≤ startFrom h b) same (start-keeps (highestBit a) a b most))
     by-place (inr less) = inl less
 
+-- and so it is once it is rounded
 pub logarithm-grows : (a b : ℕ) → 1 ≤ a → a ≤ b → b < 2 ^ 64 → logarithm a ≤ logarithm b
-logarithm-grows a b one most small = rw (logarithm-run a, logarithm-run b) (logIn-grows squarings a b one most small)
+logarithm-grows a b one most small = omega (arith, logarithm-run a, logarithm-run b, logIn-grows squarings a b one most small)

@@ -1,8 +1,7 @@
 -- Demand 3 once more, in plain numbers and with nothing named: drawn from the general statements, so that none of them can be
 -- weakened and still give these. Pinned are: a residue of just e·D passes; the slack is e² and not e times the sum of own weights;
 -- u is over any m ≥ 1; another vector may differ in one part alone; rounding is promised from a closeness of 256 on, up to −2^26
--- and 2^26, and for just half a tick. So with the bound of the logarithm. And the machine's outcome of a call is what the contract of
--- that call speaks of, with a number of the table where it is refused. Last, laws that are claimed and that nothing builds on.
+-- and 2^26, and for just half a tick. And the machine's outcome of a call is what the contract of that call speaks of, with a number of the table where it is refused. Last, laws that are claimed and that nothing builds on.
 use Prim.Native.Nat.{ℕ, _+_, _*_, _-_, _^_, _≤_, _<_}
 use mathlib.Core.Path.{_≡_, refl, sym, ap, subst, _∙_}
 use mathlib.Core.Logic.{_≢_, _⊎_, inl, inr, _↔_}
@@ -16,7 +15,6 @@ use Rattle.integers.specs.Sum.{sum, total}
 use Rattle.definitions.specs.Words.{within}
 use Rattle.definitions.specs.Layout.{Bytes, lastYear, closeness, recordLength}
 use Rattle.definitions.specs.Page.{pageLength}
-use Rattle.definitions.specs.Logarithm.{logarithm}
 use Rattle.definitions.specs.Loss.{Vector, weighted, ratio, loss, lossTimes}
 use Rattle.definitions.specs.Observations.{Chain, chainOf, paidStep, incurredStep}
 use Rattle.definitions.specs.Refusals.{clear, rowCheck, accepted}
@@ -29,8 +27,6 @@ use Rattle.laws.specs.Accepted.{Within, within-yes, accepted-file}
 use Rattle.laws.specs.Demand3.{demand3}
 use Rattle.laws.specs.FileLimits.{numerator-fits, x-sum-fits, z-sum-fits}
 use Rattle.laws.specs.Judged.{passes-of-small}
-use Rattle.laws.specs.LogarithmBound.{logarithm-bound}
-use Rattle.laws.specs.LogarithmOrder.{logarithm-grows}
 use Rattle.laws.specs.MachineLaws.{heldState, heldOutcome, write-alone, outcomes-on-figures}
 use Rattle.laws.specs.Numbers as N
 use Rattle.laws.specs.Rows.{empty-is-refused}
@@ -102,12 +98,6 @@ module _ (f : Bytes) where
     pub near-passes : Near μ → passes (figuresOf f) μ ≡ true
     near-passes h = demand3 .rounding f yes-file μ (rounded h)
 
--- ---- the logarithm of every amount of 64 bits
-
-pub logarithm-within-two-ticks : (a : ℕ) → 1 ≤ a → a < 2 ^ 64
-    → (2 ^ logarithm a ≤ a ^ 1048576) × (a ^ 1048576 < 2 ^ (logarithm a + 2))
-logarithm-within-two-ticks a one small = let bound = logarithm-bound a one small in (bound .at-least, bound .less-than)
-
 -- ---- the machine, call by call
 
 module _ (st : State Figures) where
@@ -178,9 +168,6 @@ pub row-empty : (f : Bytes) (channel year : ℕ) → (rowPart f channel year ≡
 row-empty = empty-is-refused
 
 -- ---- other laws that nothing builds on
-
-pub larger-logarithm : (a b : ℕ) → 1 ≤ a → a ≤ b → b < 2 ^ 64 → logarithm a ≤ logarithm b
-larger-logarithm = logarithm-grows
 
 pub loss-around : (c : Chain) (m : ℕ) (u μ : Vector) → let w : Vector = λ k. u k -ℤ pos m *ℤ μ k in lossTimes c m u
     ≡ pos m *ℤ pos m *ℤ loss c μ +ℤ pos 2 *ℤ pos m *ℤ sum (2 * c .last + 1) (λ k. residueTimes c 1 μ k *ℤ w k)

@@ -71,8 +71,8 @@ one-bit-more i l b h small =
     let e : 6 + (i + 1) ≡ suc (6 + i) = omega arith in
     subst (λ n. 2 * l + b < n) (sym (pow-suc 2 (6 + i)) ∙ ap (λ n. 2 ^ n) (sym e)) (omega arith)
 
-pub few-bits : (i l : ℕ) → i ≤ 20 → l < 2 ^ (6 + i) → l < 2 ^ 26
-few-bits i l n h = lt-of-lt-of-le h (pow-mono {j = 26} (omega arith))
+pub few-bits : (i l : ℕ) → i ≤ 21 → l < 2 ^ (6 + i) → l < 2 ^ 27
+few-bits i l n h = lt-of-lt-of-le h (pow-mono {j = 27} (omega arith))
 
 -- one squaring of those that are left
 pub bits-next : (left i y l : ℕ) → i < left → bitsOf (left - i) y l ≡ bitsOf (left - (i + 1)) (nextY y) (2 * l + nextBit y)

@@ -1,12 +1,8 @@
 -- The squarings of a logarithm, counted: those that are left, run from y and the bits so far, give what all of them give from the start.
-use Prim.Native.Nat.{ℕ, _+_, _-_, _^_, _≤_, _<_}
+use Prim.Native.Nat.{ℕ, _+_, _-_, _/_, _^_, _≤_, _<_}
 use mathlib.Core.Path.{_≡_, refl, sym, ap, ap₂, _∙_}
 use native.Mathlib.Omega.{arith}
-use lib.IntN.{pos}
-use mir.Syntax.{w64}
-use mir.Val.{SFits, toZ}
-use mir.Facts.{toZ-pos}
-use Rattle.integers.specs.Size.{fits}
+use lib.IntN.{ℤ, pos}
 use Rattle.definitions.specs.Logarithm.{logarithm, bitsOf, nextBit, squarings}
 use Rattle.laws.specs.LogarithmBits.{nextBit-small, logarithm-run}
 use Rattle.scales.specs.declared.Squaring.{Squaring}
@@ -24,8 +20,8 @@ pub after-none : {a : ℕ} {s : Squaring} → Start a s → After 0 s s
 after-none h = record { same = refl; small = h .small; few = h .few; within = omega arith }
 
 module _ {i : ℕ} {s t : Squaring} (h : After i s t) where
-  -- six bits of the whole part, and twenty
-  after-few : t .bits < 2 ^ 26
+  -- six bits of the whole part, and 21
+  after-few : t .bits < 2 ^ 27
   after-few = few-bits i (t .bits) (h .within) (h .few)
 
   -- what one squaring more asks for
@@ -40,13 +36,12 @@ module _ {i : ℕ} {s t : Squaring} (h : After i s t) where
     within = omega arith;
   }
 
-  -- the bits, as ticks
-  pub after-fits : SFits w64 (pos (t .bits))
-  after-fits = fits refl (omega (arith, after-few))
-
-  pub after-ticks : {a : ℕ} → squarings ≤ i → Start a s → toZ w64 (t .bits) ≡ pos (logarithm a)
+  -- the bits, rounded to ticks
+  pub after-ticks : {a : ℕ} {r : ℤ} → squarings ≤ i → Start a s → r ≡ pos ((t .bits + 1) / 2) → r ≡ pos (logarithm a)
   unfolding bitsOf
-  after-ticks {a} done start =
+  after-ticks {a} done start rounded =
       let none : squarings - i ≡ 0 = omega arith in
-      toZ-pos w64 (omega (arith, after-few))
-      ∙ ap pos (ap (λ n. bitsOf n (t .y) (t .bits)) (sym none) ∙ h .same ∙ ap₂ (bitsOf squarings) (start .y) (start .bits) ∙ sym (logarithm-run a))
+      let bits : t .bits ≡ bitsOf squarings (s .y) (s .bits) = ap (λ n. bitsOf n (t .y) (t .bits)) (sym none) ∙ h .same in
+      rounded
+      ∙ ap (λ n. pos ((n + 1) / 2)) (bits ∙ ap₂ (bitsOf squarings) (start .y) (start .bits))
+      ∙ ap pos (sym (logarithm-run a))

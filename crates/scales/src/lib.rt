@@ -1,6 +1,6 @@
 // The four units of the specification ("Words and units"), and the two formulas that turn one into another. No two of them are ever added.
 ghost use mathlib.Core.Path.{_≡_};
-ghost use Prim.Native.Nat.{_<_, _^_};
+ghost use Prim.Native.Nat.{_+_, _/_, _<_, _^_};
 ghost use lib.IntN.{pos};
 ghost use Rattle.definitions.specs.Logarithm.{logarithm};
 ghost use Rattle.definitions.specs.Weight.{weight};
@@ -26,8 +26,8 @@ pub struct FourTicks {
     pub fourth: Ticks,
 }
 
-// Each squaring finds one bit of the logarithm behind its whole part.
-const SQUARINGS: u32 = 20;
+// Each squaring finds one bit behind the whole part: 20 of them for ticks, and one of half a tick, by which they are rounded.
+const SQUARINGS: u32 = 21;
 
 // What is between two squarings: y, and the logarithm's bits so far, the whole part first.
 struct Squaring {
@@ -63,7 +63,15 @@ fn squared(s: Squaring) -> Squaring
     }
 }
 
-// The logarithm of an amount; of 0 it is 0.
+// The ticks, when all bits are found: the half ticks that these are, to the nearest, a half going up.
+fn nearest(s: Squaring) -> Ticks
+    requires { ⌜ s .bits < 2 ^ 31 ⌝ }
+    ensures { λ r. ⌜ r .0 ≡ pos ((s .bits + 1) / 2) ⌝ }
+{
+    Ticks(((s.bits + 1) / 2) as i64)
+}
+
+// The logarithm of an amount, to the nearest tick; of 0 it is 0.
 pub fn logarithm_of(a: Amount) -> Ticks
     ensures { λ r. ⌜ r .0 ≡ pos (logarithm (a .0)) ⌝ }
 {
@@ -73,7 +81,7 @@ pub fn logarithm_of(a: Amount) -> Ticks
         s = squared(s);
         i += 1;
     }
-    Ticks(s.bits as i64)
+    nearest(s)
 }
 
 // The logarithms of four amounts. A squaring waits for the one before it, so the four are squared side by side.
@@ -93,10 +101,10 @@ pub fn four_logarithms_of(a: Amount, b: Amount, c: Amount, d: Amount) -> FourTic
         i += 1;
     }
     FourTicks {
-        first: Ticks(first.bits as i64),
-        second: Ticks(second.bits as i64),
-        third: Ticks(third.bits as i64),
-        fourth: Ticks(fourth.bits as i64),
+        first: nearest(first),
+        second: nearest(second),
+        third: nearest(third),
+        fourth: nearest(fourth),
     }
 }
 

@@ -2,7 +2,7 @@
 -- are left.
 use Prim.Native.Nat.{_-_}
 use native.Mathlib.Omega.{arith}
-use Rattle.scales.proofs.Squarings.{After, after-none, after-may, after-next, after-fits, after-ticks}
+use Rattle.scales.proofs.Squarings.{After, after-none, after-may, after-next, after-ticks}
 use Rattle.scales.proofs.four_logarithms_of.Statement.{statement}
 use Rattle.scales.proofs.four_logarithms_of.Tie as tie
 
@@ -11,7 +11,7 @@ Inv-loop first₀ second₀ third₀ fourth₀ i₀ first second third fourth i 
     After i first₀ first × After i second₀ second × After i third₀ third × After i fourth₀ fourth
 
 abbrev μ-loop : tie.MeasureT-loop
-μ-loop first₀ second₀ third₀ fourth₀ i₀ first second third fourth i = 20 - i
+μ-loop first₀ second₀ third₀ fourth₀ i₀ first second third fourth i = 21 - i
 
 start-requires : tie.Need-start-requires Inv-loop μ-loop
 start-requires c κs = tt
@@ -60,30 +60,30 @@ loop-again c =
       after-next (l .3) (omega arith) (c .squared4 .ensures),
     )
 
-cast-t11 : tie.Need-cast-t11 Inv-loop μ-loop
-cast-t11 c = after-fits (c .before .before .loop .inv .0)
+nearest-requires : tie.Need-nearest-requires Inv-loop μ-loop
+nearest-requires c κs = after-may (c .before .loop .inv .0) .1
 
-cast-t13 : tie.Need-cast-t13 Inv-loop μ-loop
-cast-t13 c = after-fits (c .before .before .before .loop .inv .1)
+nearest-requires-2 : tie.Need-nearest-requires-2 Inv-loop μ-loop
+nearest-requires-2 c κs = after-may (c .before .before .loop .inv .1) .1
 
-cast-t15 : tie.Need-cast-t15 Inv-loop μ-loop
-cast-t15 c = after-fits (c .before .before .before .before .loop .inv .2)
+nearest-requires-3 : tie.Need-nearest-requires-3 Inv-loop μ-loop
+nearest-requires-3 c κs = after-may (c .before .before .before .loop .inv .2) .1
 
-cast-t17 : tie.Need-cast-t17 Inv-loop μ-loop
-cast-t17 c = after-fits (c .before .before .before .before .before .loop .inv .3)
+nearest-requires-4 : tie.Need-nearest-requires-4 Inv-loop μ-loop
+nearest-requires-4 c κs = after-may (c .before .before .before .before .loop .inv .3) .1
 
 returns : tie.Need-returns Inv-loop μ-loop
 returns c =
     let l = c .before .before .before .before .before in
     let done = c .before .before .before .before .loop-test .left in
     record {
-      first = after-ticks (l .loop .inv .0) done (l .before .before .before .before .start .ensures);
-      second = after-ticks (l .loop .inv .1) done (l .before .before .before .start2 .ensures);
-      third = after-ticks (l .loop .inv .2) done (l .before .before .start3 .ensures);
-      fourth = after-ticks (l .loop .inv .3) done (l .before .start4 .ensures);
+      first = after-ticks (l .loop .inv .0) done (l .before .before .before .before .start .ensures) (c .before .before .before .nearest .ensures);
+      second = after-ticks (l .loop .inv .1) done (l .before .before .before .start2 .ensures) (c .before .before .nearest2 .ensures);
+      third = after-ticks (l .loop .inv .2) done (l .before .before .start3 .ensures) (c .before .nearest3 .ensures);
+      fourth = after-ticks (l .loop .inv .3) done (l .before .start4 .ensures) (c .nearest4 .ensures);
     }
 
 pub four-logarithms-of-spec : {M : Type 1} → statement M
 four-logarithms-of-spec = tie.close (tie.spec
     Inv-loop μ-loop start-requires start-requires-2 start-requires-3 start-requires-4 loop-holds squared-requires squared-requires-2
-    squared-requires-3 squared-requires-4 add-i loop-less loop-again cast-t11 cast-t13 cast-t15 cast-t17 returns)
+    squared-requires-3 squared-requires-4 add-i loop-less loop-again nearest-requires nearest-requires-2 nearest-requires-3 nearest-requires-4 returns)

@@ -1,0 +1,34 @@
+-- The logarithm of an amount once more, in plain numbers, so that none of its laws can be weakened and still give these. Where the exact
+-- one is t ticks, 2^(2t) is a^(2T), T being 1,048,576.
+use Prim.Native.Nat.{ℕ, _+_, _*_, _^_, _≤_, _<_}
+use native.Mathlib.Omega.{arith}
+use lib.Dec.{lit<}
+use Rattle.definitions.specs.Logarithm.{highestBit, startFrom, bitsOf, logarithm}
+use Rattle.laws.specs.LogarithmBits.{beside-the-cut}
+use Rattle.laws.specs.LogarithmBound.{logarithm-bound, logarithm-at-most}
+use Rattle.laws.specs.LogarithmOrder.{logarithm-grows}
+
+-- ---- of every amount of 64 bits
+
+-- at most half a tick above the exact logarithm, and below it by less than a tick
+pub logarithm-bounded : (a : ℕ) → 1 ≤ a → a < 2 ^ 64
+    → (2 ^ (2 * logarithm a) ≤ 2 * a ^ 2097152) × (2 * a ^ 2097152 < 2 ^ (2 * logarithm a + 3))
+logarithm-bounded a one small = let bound = logarithm-bound a one small in (bound .at-least, bound .less-than)
+
+-- below it by less than half a tick and the 700th of one
+pub logarithm-nearest : (a : ℕ) → 1 ≤ a → a < 2 ^ 64 → 511 * a ^ 2097152 < 512 * 2 ^ (2 * logarithm a + 1)
+logarithm-nearest a one small = omega (arith, logarithm-bound a one small .nearly)
+
+pub larger-logarithm : (a b : ℕ) → 1 ≤ a → a ≤ b → b < 2 ^ 64 → logarithm a ≤ logarithm b
+larger-logarithm = logarithm-grows
+
+-- what 20 squarings give, cut off, or one tick more
+pub one-tick-at-most : (a : ℕ) → let cut : ℕ = highestBit a * 1048576 + bitsOf 20 (startFrom (highestBit a) a) 0 in
+    (cut ≤ logarithm a) × (logarithm a ≤ cut + 1)
+one-tick-at-most = beside-the-cut
+
+-- ---- of every amount that a file may have
+
+-- that of 2^40 itself: joint table, `log-of-2^40`
+pub largest-logarithm : (a : ℕ) → 1 ≤ a → a ≤ 2 ^ 40 → logarithm a ≤ 41943040
+largest-logarithm a one small = logarithm-at-most a 40 one small (lit< tt)
