@@ -77,6 +77,11 @@ def tables_file(closeness: int, prior_variance: int = layout.FLAT) -> File:
     )
 
 
+def resting_file() -> File:
+    """The tables at closeness 1 with priors of weight 2: the sweeps come to rest at a mean that does not pass."""
+    return tables_file(1, prior_variance=1 << 45)
+
+
 def settled_mean(file: File) -> tuple[int, ...]:
     _, state = session.open_file(session.EMPTY, layout.build_file(file))
     answer, state = session.sweep(state, session.MOST_SWEEPS)

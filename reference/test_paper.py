@@ -70,9 +70,10 @@ class Reserves(unittest.TestCase):
         u, m = exact.solve(self.figures.matrix, self.figures.right_hand_side)
         self.assert_agree(tuple(exact.rounded(u, m)))
 
-    def test_settled_mean_at_closeness_1_is_the_exact_solution_rounded(self) -> None:
+    def test_settled_mean_at_closeness_1_is_within_a_tick_of_the_exact_solution(self) -> None:
         u, m = exact.solve(self.figures.matrix, self.figures.right_hand_side)
-        self.assertEqual(paper.settled_mean(paper.tables_file(1)), tuple(exact.rounded(u, m)))
+        for part, settled in zip(u, paper.settled_mean(paper.tables_file(1)), strict=True):
+            self.assertLess(abs(part - m * settled), m)
 
     def test_the_mean_matters(self) -> None:
         """One per cent (15,000 ticks) more in psi 3 moves year 6 out of the tolerance."""
@@ -90,7 +91,7 @@ class Reserves(unittest.TestCase):
 
     def test_a_mean_that_does_not_settle(self) -> None:
         with self.assertRaises(ValueError):
-            paper.settled_mean(paper.tables_file(1, prior_variance=1 << 46))
+            paper.settled_mean(paper.resting_file())
 
 
 if __name__ == "__main__":

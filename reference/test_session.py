@@ -168,12 +168,12 @@ class Sweep(unittest.TestCase):
         self.assertEqual(session.sweep(spent, 0), (Refusal(12, 0), spent))
 
     def test_at_rest_without_passing(self) -> None:
-        """Tables 10 and 11 at closeness 1 with priors of weight 1: a sweep changes nothing any more, and phi 9 still fails."""
-        answer, state = session.sweep(opened(paper.tables_file(1, prior_variance=1 << 46)), 100)
+        """A sweep changes nothing any more, and phi 8 still fails."""
+        answer, state = session.sweep(opened(paper.resting_file()), 100)
         self.assertEqual(answer, Going(100))
         _, after = session.sweep(state, 1)
         self.assertEqual(after.mean, state.mean)
-        self.assertEqual(chain.first_failing_part(state.figures, state.residues()), 9)
+        self.assertEqual(chain.first_failing_part(state.figures, state.residues()), 8)
 
 
 class ReadAndPage(unittest.TestCase):

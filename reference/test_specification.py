@@ -262,7 +262,7 @@ class Closeness(unittest.TestCase):
             moved = [self.total(e, [part + sign * e for part in exactly]) - total for sign in (1, -1)]
             self.assertEqual([settled, apart, high, low], [round(found), round(found) - round(total), *map(round, moved)])
         with self.assertRaises(ValueError):  # at rest without passing, as the text has it
-            paper.settled_mean(paper.tables_file(1, prior_variance=1 << 46))
+            paper.settled_mean(paper.resting_file())
         two, advised, most = (row[1] for row in table)
         said = f"reserves come to {two:,} with closeness 2, {advised:,} with 256 and {most:,} with 65,536"
         self.assertIn(said, " ".join(README.split()))

@@ -36,7 +36,7 @@ class Made(unittest.TestCase):
         self.assertEqual(self.listing("spent-at-a-limit"), ["spent 4096"])
         self.assertEqual(self.listing("tables-256")[0], "J 9")
         self.assertEqual(self.listing("tables-1")[0], "J 9")
-        self.assertEqual(self.listing("tables-priors-1"), ["spent 4096"])  # at rest without passing
+        self.assertEqual(self.listing("tables-at-rest"), ["spent 4096"])
         for last in range(1, 16):
             self.assertIn(self.listing(f"years-{last:02}")[0], (f"J {last}", "spent 4096"))
 

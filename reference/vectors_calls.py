@@ -183,7 +183,7 @@ def tables(closeness: int) -> Iterator[bytes]:
 def spent() -> Iterator[bytes]:
     """23, reached in one call and in many; 12 before it; judge, read and page go on; reopening starts anew."""
     at_limits = (samples.spent_at_a_limit(closeness, sign) for closeness in (1, 65_536) for sign in (1, -1))
-    for file in (*at_limits, paper.tables_file(1, prior_variance=1 << 46)):
+    for file in (*at_limits, paper.resting_file()):
         lent, record = build_file(file), build_record(file.prior_means)
         yield from (call_open(lent), *map(call_sweep, (1 << k for k in range(12))), call_read(0))
         yield from map(call_sweep, (1, 1, 0, 4_097, 4_096))  # to 4,096, then 23, 12, 12, 23

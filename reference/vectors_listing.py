@@ -46,8 +46,8 @@ def _figures() -> dict[str, bytes]:
 
 
 def _tables() -> dict[str, bytes]:
-    """The paper's example, and the same with priors of weight 1."""
-    inputs = {}
+    """The paper's example, the same with priors of weight 1, and with those that bring it to rest before its mean passes."""
+    inputs = {"tables-at-rest": build_file(paper.resting_file())}
     for closeness in TABLES_CLOSENESSES:
         inputs[f"tables-{closeness}"] = build_file(paper.tables_file(closeness))
         inputs[f"tables-priors-{closeness}"] = build_file(paper.tables_file(closeness, prior_variance=1 << 46))

@@ -1,7 +1,8 @@
 -- Demand 3 once more, in plain numbers and with nothing named: drawn from the general statements, so that none of them can be
 -- weakened and still give these. Pinned are: a residue of just e·D passes; the slack is e² and not e times the sum of own weights;
 -- u is over any m ≥ 1; another vector may differ in one part alone; rounding is promised from a closeness of 256 on, up to −2^26
--- and 2^26, and for just half a tick. And the machine's outcome of a call is what the contract of that call speaks of, with a number of the table where it is refused. Last, laws that are claimed and that nothing builds on.
+-- and 2^26, and for just half a tick. And the machine's outcome of a call is what the contract of that call speaks of, with a number of
+-- the table where it is refused. Last, laws that are claimed and that nothing builds on.
 use Prim.Native.Nat.{ℕ, _+_, _*_, _-_, _^_, _≤_, _<_}
 use mathlib.Core.Path.{_≡_, refl, sym, ap, subst, _∙_}
 use mathlib.Core.Logic.{_≢_, _⊎_, inl, inr, _↔_}
