@@ -86,7 +86,7 @@ PINNED = {
         "write-worth",
 }
 
-# To the letter, what is said of number 16, of the numbers that there are and of the logarithm: no contract has it, so nothing else holds it.
+# To the letter, what is said of number 16, of the numbers that there are and of the logarithm: no contract has it, nothing else holds it.
 TO_THE_LETTER = {
     "laws/Number16": (
         "| module _ (f : Bytes) where abbrev pub oneToTen : Check oneToTen = check1 f then check2 f then check3 f then check4 f "
