@@ -110,8 +110,8 @@ TO_THE_LETTER = {
         "→ (2 ^ (2 * logarithm a) ≤ 2 * a ^ 2097152) × (2 * a ^ 2097152 < 2 ^ (2 * logarithm a + 3)) | logarithm-bounded",
         "| pub logarithm-nearest : (a : ℕ) → 1 ≤ a → a < 2 ^ 64 → 511 * a ^ 2097152 < 512 * 2 ^ (2 * logarithm a + 1) | logarithm-nearest",
         "| pub larger-logarithm : (a b : ℕ) → 1 ≤ a → a ≤ b → b < 2 ^ 64 → logarithm a ≤ logarithm b | larger-logarithm",
-        "| pub one-tick-at-most : (a : ℕ) → let cut : ℕ = highestBit a * 1048576 + bitsOf 20 (startFrom (highestBit a) a) 0 in "
-        "(cut ≤ logarithm a) × (logarithm a ≤ cut + 1) | one-tick-at-most",
+        "| pub one-tick-at-most : (a : ℕ) → let y : ℕ = startFrom (highestBit a) a in "
+        "logarithm a ≡ highestBit a * 1048576 + bitsOf 20 y 0 + bitsOf 21 y 0 % 2 | one-tick-at-most",
         "| pub largest-logarithm : (a : ℕ) → 1 ≤ a → a ≤ 2 ^ 40 → logarithm a ≤ 41943040 | largest-logarithm",
     ),
     "laws/Pinned": (

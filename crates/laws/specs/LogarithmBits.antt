@@ -1,5 +1,5 @@
 -- The logarithm run as one number: h first, and each squaring puts its bit behind the bits so far. The last of them rounds it.
-use Prim.Native.Nat.{ℕ, zero, suc, _+_, _*_, _/_, _^_, _≤_, _<_}
+use Prim.Native.Nat.{ℕ, zero, suc, _+_, _*_, _/_, _%_, _^_, _≤_, _<_}
 use mathlib.Core.Path.{_≡_, sym, ap, _∙_}
 use mathlib.Core.Bool.{Bool, true, false, cond}
 use native.Mathlib.Nat.{two-pow-succ, mul-le-mul-right}
@@ -31,7 +31,7 @@ bits-behind (suc k) y l =
     shifted : (bit p rest : ℕ) → (2 * l + bit) * p + rest ≡ l * (p + p) + ((2 * 0 + bit) * p + rest)
     shifted bit p rest = omega arith
 
--- and k of them are below 2^k: so h is the whole part of the logarithm in doublings
+-- and k of them are below 2^k: so h is the whole part of L' in doublings
 pub bits-few : (k y : ℕ) → bitsOf k y 0 < 2 ^ k
 unfolding bitsOf
 bits-few zero y = omega arith
@@ -42,9 +42,7 @@ bits-few (suc k) y =
 -- L' is h and all the bits
 pub halfTicks-run : (a : ℕ) → halfTicks a ≡ logIn squarings a
 unfolding halfTicks
-halfTicks-run a =
-    let y = startFrom (highestBit a) a in
-    omega (arith, bits-behind squarings y (highestBit a))
+halfTicks-run a = omega (arith, bits-behind squarings (startFrom (highestBit a) a) (highestBit a))
 
 -- and L is rounded from them
 pub logarithm-run : (a : ℕ) → logarithm a ≡ (logIn squarings a + 1) / 2
@@ -57,10 +55,8 @@ unfolding bitsOf
 last-bit zero y l = (omega arith, omega (arith, nextBit-small y))
 last-bit (suc k) y l = last-bit k (nextY y) (2 * l + nextBit y)
 
--- so L is the logarithm of one squaring less, in whole ticks and cut off, or one more: it is rounded up exactly where the last bit is 1
-pub beside-the-cut : (a : ℕ) → let cut : ℕ = highestBit a * ticksPerDoubling + bitsOf 20 (startFrom (highestBit a) a) 0 in
-    (cut ≤ logarithm a) × (logarithm a ≤ cut + 1)
+-- so L is what one squaring less gives, and one tick more exactly where the last bit is 1
+pub rounded-by-the-last-bit : (a : ℕ) → let y : ℕ = startFrom (highestBit a) a in
+    logarithm a ≡ highestBit a * ticksPerDoubling + bitsOf 20 y 0 + bitsOf squarings y 0 % 2
 unfolding logarithm halfTicks
-beside-the-cut a =
-    let last = last-bit 20 (startFrom (highestBit a) a) 0 in
-    (omega (arith, last .0), omega (arith, last .1))
+rounded-by-the-last-bit a = let last = last-bit 20 (startFrom (highestBit a) a) 0 in omega (arith, last .0, last .1)

@@ -1,10 +1,11 @@
 -- The logarithm of an amount once more, in plain numbers, so that none of its laws can be weakened and still give these. Where the exact
 -- one is t ticks, 2^(2t) is a^(2T), T being 1,048,576.
-use Prim.Native.Nat.{ℕ, _+_, _*_, _^_, _≤_, _<_}
+use Prim.Native.Nat.{ℕ, _+_, _*_, _%_, _^_, _≤_, _<_}
+use mathlib.Core.Path.{_≡_}
 use native.Mathlib.Omega.{arith}
 use lib.Dec.{lit<}
 use Rattle.definitions.specs.Logarithm.{highestBit, startFrom, bitsOf, logarithm}
-use Rattle.laws.specs.LogarithmBits.{beside-the-cut}
+use Rattle.laws.specs.LogarithmBits.{rounded-by-the-last-bit}
 use Rattle.laws.specs.LogarithmBound.{logarithm-bound, logarithm-at-most}
 use Rattle.laws.specs.LogarithmOrder.{logarithm-grows}
 
@@ -22,10 +23,10 @@ logarithm-nearest a one small = omega (arith, logarithm-bound a one small .nearl
 pub larger-logarithm : (a b : ℕ) → 1 ≤ a → a ≤ b → b < 2 ^ 64 → logarithm a ≤ logarithm b
 larger-logarithm = logarithm-grows
 
--- what 20 squarings give, cut off, or one tick more
-pub one-tick-at-most : (a : ℕ) → let cut : ℕ = highestBit a * 1048576 + bitsOf 20 (startFrom (highestBit a) a) 0 in
-    (cut ≤ logarithm a) × (logarithm a ≤ cut + 1)
-one-tick-at-most = beside-the-cut
+-- what 20 squarings give, and one tick more where the 21st finds a 1
+pub one-tick-at-most : (a : ℕ) → let y : ℕ = startFrom (highestBit a) a in
+    logarithm a ≡ highestBit a * 1048576 + bitsOf 20 y 0 + bitsOf 21 y 0 % 2
+one-tick-at-most = rounded-by-the-last-bit
 
 -- ---- of every amount that a file may have
 
