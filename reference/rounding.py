@@ -1,7 +1,7 @@
 """How far logarithms are from the exact ones on average: cut off to whole ticks, and to the nearest as the specification has them.
 
 A sum of many logarithms adds up what each is off by, so what counts is the mean. The exact logarithm is no whole number; it is held
-between two numbers that are 2^-32 ticks apart or little more, so every digit that is printed is certain.
+between two numbers that are 2^-32 ticks apart, so every digit that is printed is certain.
 """
 
 from fractions import Fraction

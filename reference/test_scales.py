@@ -1,8 +1,8 @@
 """The logarithm and the weight against the specification's figures and bounds."""
 
 import unittest
+from decimal import Decimal, localcontext
 from fractions import Fraction
-from math import log2
 from random import Random
 
 from rounding import exact_ticks, mean_errors, power_bounds
@@ -62,6 +62,8 @@ class Logarithm(unittest.TestCase):
         # Few amounts tell a floor on the way from another rounding, so many are drawn.
         for amount in drawn_amounts(2, 300):
             self.assertEqual(logarithm(amount), by_the_words(amount), amount)
+        # Of this one the bit that is lost decides: rounded up at the start, it would be a tick more.
+        self.assertEqual((logarithm(4_294_968_715), logarithm(4_294_968_716)), (32 * T, 32 * T + 1))
 
     def test_grows_with_the_amount(self) -> None:
         amounts = sorted(drawn_amounts(3, 50))
@@ -75,11 +77,26 @@ class Logarithm(unittest.TestCase):
 
 
 class Rounding(unittest.TestCase):
+    def test_the_power_is_between(self) -> None:
+        """Of few bits, so that much is cut off."""
+        for amount in (3, 5, 7, 1_000_003, (1 << 40) - 1):
+            low, high, exponent = power_bounds(amount, 10, bits=20)
+            self.assertLess(low << exponent, amount**1_024)
+            self.assertLess(amount**1_024, high << exponent)
+
     def test_the_exact_logarithm_is_between(self) -> None:
-        for amount in (1, 2, 3, 5, 1_000_003, (1 << 40) - 1, 1 << 40):
-            low, high = exact_ticks(amount)
-            self.assertLessEqual(high - low, Fraction(2, 1 << 32))
-            self.assertAlmostEqual(float(low), T * log2(amount), delta=1e-7)
+        """By the natural logarithms of the standard library, to 40 figures."""
+        with localcontext() as context:
+            context.prec = 40
+            for amount in (2, 3, 5, 2_411, 1_000_003, (1 << 40) - 1, 1 << 40):
+                ticks = Fraction(T * (Decimal(amount).ln() / Decimal(2).ln()))
+                low, high = exact_ticks(amount)
+                self.assertEqual(high - low, Fraction(1, 1 << 32))
+                self.assertTrue(low <= ticks + Fraction(1, 10**30) and ticks < high, amount)
+
+    def test_half_a_tick_may_be_passed(self) -> None:
+        """As of 2,411, by what the squarings lose: so the bound has 511 and 512."""
+        self.assertGreater(exact_ticks(2_411)[0] - logarithm(2_411), Fraction(1, 2))
 
     def test_cut_off_they_are_of_one_squaring_less(self) -> None:
         for amount in drawn_amounts(4, 50):

@@ -3,7 +3,7 @@
 import re
 import unittest
 from fractions import Fraction
-from math import log, sqrt
+from math import ceil, log, log2, sqrt
 from pathlib import Path
 
 import cells
@@ -19,7 +19,7 @@ from listing import listing
 from page import page_length, part_names
 from rounding import DRAWN, mean_errors
 from scales import TICKS_PER_DOUBLING as T
-from scales import logarithm, weight
+from scales import SQUARINGS, half_ticks, logarithm, weight
 from vectors import DEFAULT_SEED
 
 ROOT = Path(__file__).resolve().parent.parent
@@ -128,6 +128,20 @@ class Examples(unittest.TestCase):
         self.assertEqual((weight(1 << 18), weight(1 << 46), weight(0)), (1 << 28, 1, 0))
         said = "2^28 for 2^18, 1 for 2^46. The weight of 0, the variance of a part without a prior, is 0."
         self.assert_said("From amounts to the loss", said)
+
+    def test_how_a_logarithm_is_found(self) -> None:
+        self.assertEqual((SQUARINGS, half_ticks(1 << 40)), (21, 2 * 40 * T))
+        for said in (
+            f"Then {SQUARINGS} times: if u² ≥ 2^63, note the bit 1",
+            f"Let L' be 2h·T plus the number that the {SQUARINGS} bits spell, first bit highest:", "Then log a is floor((L' + 1) / 2),",
+        ):
+            self.assert_said("From amounts to the loss", said)
+
+    def test_how_near_a_logarithm_is(self) -> None:
+        """In the text as the reference's tests of the logarithm have it, and the widest that the sharper bound leaves."""
+        below = ceil(1_000 * (0.5 + log2(512 / 511) / 2)) / 1_000
+        self.assert_said("From amounts to the loss", "for every amount of 64 bits: 2^(2·log a) ≤ 2·a^(2T) < 2^(2·log a + 3), so that")
+        self.assert_said("From amounts to the loss", f"511·a^(2T) < 512·2^(2·log a + 1), so that it is less than {below} ticks below.")
 
     def test_what_rounding_is_for(self) -> None:
         self.assertEqual(layout.AMOUNT_LIMITS, (1, 1 << 40))
@@ -261,8 +275,11 @@ class Closeness(unittest.TestCase):
             found = self.total(e, paper.settled_mean(paper.tables_file(e)))
             moved = [self.total(e, [part + sign * e for part in exactly]) - total for sign in (1, -1)]
             self.assertEqual([settled, apart, high, low], [round(found), round(found) - round(total), *map(round, moved)])
-        with self.assertRaises(ValueError):  # at rest without passing, as the text has it
-            paper.settled_mean(paper.resting_file())
+        resting = paper.resting_file()
+        with self.assertRaises(ValueError):
+            paper.settled_mean(resting)
+        said = f"as the sample's do at e = {resting.closeness} where its prior variances are 2^{log2(resting.prior_variances[0]):.0f}."
+        self.assertIn(said, " ".join(section("The test").split()))
         two, advised, most = (row[1] for row in table)
         said = f"reserves come to {two:,} with closeness 2, {advised:,} with 256 and {most:,} with 65,536"
         self.assertIn(said, " ".join(README.split()))

@@ -25,8 +25,11 @@ from vectors_listing import TABLES_CLOSENESSES
 
 LARGEST_NUMBER = (1 << 32) - 1
 
-# Powers of two and those beside them, above 32 bits too; 3 is rounded up, 5 down; 2,411 is more than half a tick above its logarithm.
-LOGARITHMS_OF = (1, 2, 3, 5, 2_411, (1 << 31) - 1, (1 << 32) - 1, (1 << 32) + 1, (1 << 33) - 1, (1 << 33) + 1, (1 << 40) - 1, 1 << 40)
+# 3 is rounded up, 5 down; the exact logarithm of 2,411 is more than half a tick above the desk's; 4,294,968,715 tells how bits that do not
+# fit 32 are dropped; the others are powers of two and those beside them.
+LOGARITHMS_OF = (
+    1, 2, 3, 5, 2_411, (1 << 32) - 1, (1 << 32) + 1, 4_294_968_715, (1 << 33) - 1, (1 << 40) - 1, 1 << 40,
+)
 
 
 def script_of_scenes(seed: int, drawn_sessions: int = 60) -> bytes:

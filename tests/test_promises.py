@@ -104,6 +104,7 @@ TO_THE_LETTER = {
     ),
     "definitions/JointTable": (
         "pub log-of-1 : logarithm 1 ≡ 0 pub log-of-2^40 : logarithm (2 ^ 40) ≡ 41943040 pub log-of-3 : logarithm 3 ≡ 1661954 pub weight-of",
+        "| pub jointTable : JointTable | unfolding",
     ),
     "laws/PinnedLogarithms": (
         "| pub logarithm-bounded : (a : ℕ) → 1 ≤ a → a < 2 ^ 64 "

@@ -1,9 +1,9 @@
 -- What follows from the definitions: why the promises hold. To search, not to read.
 --   Tables            a tabulated list: its length, its elements, and two with the same
 --   Filled            an array that is filled from the front
---   LogarithmBits     the bits stand behind h, so many of them; L is rounded by the last
+--   LogarithmBits     the bits of k squarings stand behind h, and are below 2^k; L is rounded by the last
 --   LogarithmBound    2^(2L) ≤ 2·a^(2T) < 2^(2L+3), by a law of any number of squarings; a logarithm is at most that of the limit
---   LogarithmOrder    the larger the amount, the larger its logarithm
+--   LogarithmOrder    of two amounts the larger has no smaller logarithm
 --   PinnedLogarithms  all three once more, in plain numbers
 --   WeightLaws        the weight is positive, falls as the variance grows, and where it lies
 --   Cells             the start of each row, by document 02's formula and table; rows and cells are inside their block

@@ -1,6 +1,6 @@
--- The specification's claims about the logarithm, with L rounded from the bits L' of 21 squarings: 2^(2L) ≤ 2·a^(2T) < 2^(2L+3), and
--- sharper above, 511·a^(2T) < 512·2^(2L+1). They are drawn from a law of any number k of squarings up to 28, l being their bits and t
--- 2^k: 2^l ≤ a^t < 2^(l+2).
+-- The specification's claims about the logarithm: 2^(2L) ≤ 2·a^(2T) < 2^(2L+3), and sharper above, 511·a^(2T) < 512·2^(2L+1). They are
+-- drawn from a law of any number k of squarings up to 28: 2^l ≤ a^t < 2^(l+2), where l is h with the bits of k squarings behind it, and t
+-- is 2^k.
 --
 -- After each squaring y and the bits l so far bracket the power p of the amount: 2^l·y ≤ p·N, and p·N·N^c ≤ 2^l·y·(N + 1)^c, where
 -- N is 2^31 and c counts the roundings so far, of which a squaring doubles those before it and adds one.
@@ -196,7 +196,7 @@ module _ (a h : ℕ) (from : 2 ^ h ≤ a) (to : a < 2 ^ suc h) where
 
 -- ---- the logarithm
 
--- with t of the bits' units to a doubling: 2^l ≤ a^t < 2^(l + 2), and sharper above the fewer squarings there are
+-- with t units of l to a doubling: 2^l ≤ a^t < 2^(l + 2), and the sharper above, the fewer the squarings
 pub record LogarithmBound (a t l : ℕ) : Type 0 where
   pub at-least : 2 ^ l ≤ a ^ t
   pub less-than : a ^ t < 2 ^ (l + 2)

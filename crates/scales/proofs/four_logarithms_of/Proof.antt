@@ -2,6 +2,7 @@
 -- are left.
 use Prim.Native.Nat.{_-_}
 use native.Mathlib.Omega.{arith}
+use Rattle.definitions.specs.Logarithm.{squarings}
 use Rattle.scales.proofs.Squarings.{After, after-none, after-may, after-next, after-ticks}
 use Rattle.scales.proofs.four_logarithms_of.Statement.{statement}
 use Rattle.scales.proofs.four_logarithms_of.Tie as tie
@@ -11,7 +12,7 @@ Inv-loop first₀ second₀ third₀ fourth₀ i₀ first second third fourth i 
     After i first₀ first × After i second₀ second × After i third₀ third × After i fourth₀ fourth
 
 abbrev μ-loop : tie.MeasureT-loop
-μ-loop first₀ second₀ third₀ fourth₀ i₀ first second third fourth i = 21 - i
+μ-loop first₀ second₀ third₀ fourth₀ i₀ first second third fourth i = squarings - i
 
 start-requires : tie.Need-start-requires Inv-loop μ-loop
 start-requires c κs = tt

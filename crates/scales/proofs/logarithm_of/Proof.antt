@@ -1,6 +1,7 @@
 -- `scales::logarithm_of` meets its contract. The loop's invariant: so many squarings are run. The measure is how many are left.
 use Prim.Native.Nat.{_-_}
 use native.Mathlib.Omega.{arith}
+use Rattle.definitions.specs.Logarithm.{squarings}
 use Rattle.scales.proofs.Squarings.{After, after-none, after-may, after-next, after-ticks}
 use Rattle.scales.proofs.logarithm_of.Statement.{statement}
 use Rattle.scales.proofs.logarithm_of.Tie as tie
@@ -9,7 +10,7 @@ abbrev Inv-loop : tie.InvT-loop
 Inv-loop s₀ i₀ s i = After i s₀ s
 
 abbrev μ-loop : tie.MeasureT-loop
-μ-loop s₀ i₀ s i = 21 - i
+μ-loop s₀ i₀ s i = squarings - i
 
 start-requires : tie.Need-start-requires Inv-loop μ-loop
 start-requires c κs = tt
