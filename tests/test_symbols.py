@@ -1,10 +1,11 @@
-"""Symbols mean what a reader takes them to mean: nothing stands in a block of comments, each operator is the library's, and where
-laws are pinned each name of the definitions is that of the definitions."""
+"""Symbols mean what a reader takes them to mean: nothing stands in a block of comments, operators and names of the kit are the kit's, and
+where laws are pinned each name of the definitions is that of the definitions."""
 
 import re
 import unittest
 from collections.abc import Iterator
 
+from believed import reached
 from declared import files, text_of
 from test_promises import PINNED
 
@@ -25,6 +26,9 @@ OF_THE_CRATES = {
     "holding/Decided": "_and_",
     "integers/Solver": "_⊞_ _⊟_ _⊠_ _≐_ ⊖_",
 }
+# The kit's names for an option. Here `some` is a field, and `none` what C is told where nothing is refused.
+OF_AN_OPTION = {"some", "none"}
+
 # Where a name of the definitions may come from. What arrays stand for, and a struct of the source, may have the name too.
 MEANT = r"^Rattle·(definitions\.specs\.|chain\.specs\.Arrays$|\w+\.specs\.declared\.)"
 
@@ -63,6 +67,18 @@ class Symbols(unittest.TestCase):
             operators = {word for word in declared(name) if word.startswith("_") or word.endswith("_")}
             file = re.sub(r"crates/(\w+)/specs/(\w+)\.antt", r"\1/\2", name)
             self.assertEqual(operators, {operator for operator in own if own[operator] == file}, name)
+
+    def test_names_of_the_kit(self) -> None:
+        """In what is said, each comes from one module; what is believed and what is pinned gives none a meaning of its own."""
+        modules: dict[str, set[str]] = {}
+        for name in sources(".antt") + sources(".rt"):
+            for word, module in imported(name):
+                if "/proofs/" not in name and not module.startswith("Rattle·"):
+                    modules.setdefault(word, set()).add(module)
+        self.assertEqual({word: several for word, several in modules.items() if len(several) > 1}, {})
+        pinned = ("crates/{}/specs/{}.antt".format(*file.split("/")) for file in PINNED)
+        for name in (*reached()[0], *pinned):
+            self.assertEqual(set(modules) & set(declared(name)) - OF_AN_OPTION, set(), name)
 
     def test_names_of_the_definitions_where_laws_are_pinned(self) -> None:
         defined = r"^ *(?:(?:abbrev|unfoldable) pub|pub (?:record|data)) ([^\s{]+)"
