@@ -95,8 +95,11 @@ class Rounding(unittest.TestCase):
                 self.assertTrue(low <= ticks + Fraction(1, 10**30) and ticks < high, amount)
 
     def test_half_a_tick_may_be_passed(self) -> None:
-        """As of 2,411, by what the squarings lose: so the bound has 511 and 512."""
+        """By what the squarings lose: so the bound has 511 and 512, and 1,023 and 1,024 would be too near."""
         self.assertGreater(exact_ticks(2_411)[0] - logarithm(2_411), Fraction(1, 2))
+        amount = 141_007_702_397
+        low, _, exponent = power_bounds(amount, 21)
+        self.assertGreater(1_023 * low, 1_024 * 2 << (2 * logarithm(amount) - exponent))
 
     def test_cut_off_they_are_of_one_squaring_less(self) -> None:
         for amount in drawn_amounts(4, 50):
