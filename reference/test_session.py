@@ -168,12 +168,14 @@ class Sweep(unittest.TestCase):
         self.assertEqual(session.sweep(spent, 0), (Refusal(12, 0), spent))
 
     def test_at_rest_without_passing(self) -> None:
-        """A sweep changes nothing any more, and phi 8 still fails."""
+        """A sweep changes nothing any more, and phi 8 still fails: its residue is above D and below half its diagonal entry."""
         answer, state = session.sweep(opened(paper.resting_file()), 100)
         self.assertEqual(answer, Going(100))
         _, after = session.sweep(state, 1)
         self.assertEqual(after.mean, state.mean)
         self.assertEqual(chain.first_failing_part(state.figures, state.residues()), 8)
+        residue = abs(state.residues()[8])
+        self.assertTrue(state.figures.own[8] < residue < state.figures.matrix[8][8] / 2)
 
 
 class ReadAndPage(unittest.TestCase):
