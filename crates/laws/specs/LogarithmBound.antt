@@ -196,7 +196,7 @@ module _ (a h : ℕ) (from : 2 ^ h ≤ a) (to : a < 2 ^ suc h) where
 
 -- ---- the logarithm
 
--- with t units of l to a doubling: 2^l ≤ a^t < 2^(l + 2), and the sharper above, the fewer the squarings
+-- with t units of l to a doubling: 2^l ≤ a^t < 2^(l + 2); `nearly` is a bound from above that is the sharper, the fewer the squarings
 pub record LogarithmBound (a t l : ℕ) : Type 0 where
   pub at-least : 2 ^ l ≤ a ^ t
   pub less-than : a ^ t < 2 ^ (l + 2)
