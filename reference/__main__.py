@@ -100,7 +100,7 @@ def run_reserves(_arguments: argparse.Namespace) -> int:
 def run_rounding(arguments: argparse.Namespace) -> int:
     print(f"{rounding.DRAWN:,} amounts drawn: the mean of the logarithm less the exact one, in ticks")
     for name, error in zip(("cut off", "to the nearest"), rounding.mean_errors(arguments.seed)):
-        print(f"{name:>15} {float(error):8.4f}")
+        print(f"{name:>15} {float(error):7.3f}")
     return 0
 
 

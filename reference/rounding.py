@@ -11,10 +11,11 @@ from layout import AMOUNT_LIMITS
 from scales import TICKS_PER_DOUBLING, half_ticks, logarithm
 
 DRAWN = 10_000
-SQUARINGS = 52  # 20 of them for whole ticks
+POWER_SQUARINGS = 52  # 20 of them for whole ticks
+POWER_BITS = 128
 
 
-def power_bounds(amount: int, squarings: int, bits: int = 128) -> tuple[int, int, int]:
+def power_bounds(amount: int, squarings: int, bits: int = POWER_BITS) -> tuple[int, int, int]:
     """Whole numbers low, high, exponent: the amount squared so many times is from low*2^exponent to high*2^exponent.
 
     After each squaring the two are cut to so many bits, one down and the other up.
@@ -27,10 +28,10 @@ def power_bounds(amount: int, squarings: int, bits: int = 128) -> tuple[int, int
     return low, high, exponent
 
 
-def exact_ticks(amount: int) -> tuple[Fraction, Fraction]:
+def exact_ticks(amount: int, bits: int = POWER_BITS) -> tuple[Fraction, Fraction]:
     """Two numbers between which the exact logarithm is, in ticks."""
-    low, high, exponent = power_bounds(amount, SQUARINGS)
-    unit = Fraction(TICKS_PER_DOUBLING, 1 << SQUARINGS)
+    low, high, exponent = power_bounds(amount, POWER_SQUARINGS, bits)
+    unit = Fraction(TICKS_PER_DOUBLING, 1 << POWER_SQUARINGS)
     return (exponent + low.bit_length() - 1) * unit, (exponent + high.bit_length()) * unit
 
 

@@ -181,6 +181,11 @@ class CommandLine(unittest.TestCase):
     def test_cells(self) -> None:
         self.assertEqual(self.run_command("cells").stdout, (REFERENCE.parent / "docs" / "CELLS.md").read_bytes())
 
+    def test_rounding(self) -> None:
+        """The figures of the specification."""
+        lines = self.run_command("rounding").stdout.decode().splitlines()[1:]
+        self.assertEqual([line.strip() for line in lines], ["cut off  -0.498", "to the nearest  -0.006"])
+
     def test_judge(self) -> None:
         with tempfile.TemporaryDirectory() as folder:
             file, spoilt, record = (Path(folder) / name for name in ("file", "spoilt", "record"))

@@ -1,30 +1,39 @@
 """The logarithm and the weight against the specification's figures and bounds."""
 
 import unittest
+from collections.abc import Callable
 from decimal import Decimal, localcontext
 from fractions import Fraction
 from random import Random
 
-from rounding import exact_ticks, mean_errors, power_bounds
+from rounding import POWER_BITS, exact_ticks, mean_errors, power_bounds
 from scales import TICKS_PER_DOUBLING as T
 from scales import half_ticks, logarithm, weight
+from vectors_calls import LOGARITHMS_OF
 
 
-def by_the_words(amount: int) -> int:
+Divided = Callable[[int, int, str], int]
+
+
+def rounded_down(number: int, divisor: int, _place: str) -> int:
+    return number // divisor
+
+
+def by_the_words(amount: int, divided: Divided = rounded_down) -> int:
     """The specification's logarithm read once more, with divisions instead of shifts and its bits as a text."""
-    return (half_ticks_by_the_words(amount, 21) + 1) // 2
+    return (half_ticks_by_the_words(amount, 21, divided) + 1) // 2
 
 
-def half_ticks_by_the_words(amount: int, squarings: int) -> int:
+def half_ticks_by_the_words(amount: int, squarings: int, divided: Divided = rounded_down) -> int:
     """With 21 squarings; with 20 they are whole ticks."""
     whole = max(h for h in range(64) if 2**h <= amount)
-    y = amount * 2 ** (31 - whole) if whole <= 31 else amount // 2 ** (whole - 31)
+    y = amount * 2 ** (31 - whole) if whole <= 31 else divided(amount, 2 ** (whole - 31), "start")
     bits = ""
     for _ in range(squarings):
         if y * y >= 2**63:
-            bits, y = bits + "1", y * y // 2**32
+            bits, y = bits + "1", divided(y * y, 2**32, "bit 1")
         else:
-            bits, y = bits + "0", y * y // 2**31
+            bits, y = bits + "0", divided(y * y, 2**31, "bit 0")
     return whole * 2**squarings + int(bits, 2)
 
 
@@ -60,10 +69,24 @@ class Logarithm(unittest.TestCase):
     def test_reads_as_the_document(self) -> None:
         # Amounts from 2^32 on lose their lowest bits before the first squaring.
         # Few amounts tell a floor on the way from another rounding, so many are drawn.
-        for amount in drawn_amounts(2, 300):
+        for amount in [*drawn_amounts(2, 300), *LOGARITHMS_OF]:
             self.assertEqual(logarithm(amount), by_the_words(amount), amount)
         # Of this one the bit that is lost decides: rounded up at the start, it would be a tick more.
         self.assertEqual((logarithm(4_294_968_715), logarithm(4_294_968_716)), (32 * T, 32 * T + 1))
+
+    def test_the_vectors_tell_each_floor_from_another_rounding(self) -> None:
+        """So that a desk whose definition and code share one mistake still prints something else."""
+        roundings: dict[str, Callable[[int, int], int]] = {
+            "one less where exact": lambda number, divisor: (number - 1) // divisor,
+            "to the nearest": lambda number, divisor: (2 * number + divisor) // (2 * divisor),
+            "up": lambda number, divisor: -(-number // divisor),
+        }
+        for place in ("start", "bit 1", "bit 0"):
+            for name, other in roundings.items():
+                def divided(number: int, divisor: int, where: str) -> int:
+                    return other(number, divisor) if where == place else number // divisor
+
+                self.assertTrue(any(by_the_words(amount, divided) != logarithm(amount) for amount in LOGARITHMS_OF), (place, name))
 
     def test_grows_with_the_amount(self) -> None:
         amounts = sorted(drawn_amounts(3, 50))
@@ -90,9 +113,11 @@ class Rounding(unittest.TestCase):
             context.prec = 40
             for amount in (2, 3, 5, 2_411, 1_000_003, (1 << 40) - 1, 1 << 40):
                 ticks = Fraction(T * (Decimal(amount).ln() / Decimal(2).ln()))
+                for bits in (POWER_BITS, 50):  # of so few the ends are several bits apart
+                    low, high = exact_ticks(amount, bits)
+                    self.assertTrue(low <= ticks + Fraction(1, 10**30) and ticks < high, amount)
                 low, high = exact_ticks(amount)
                 self.assertEqual(high - low, Fraction(1, 1 << 32))
-                self.assertTrue(low <= ticks + Fraction(1, 10**30) and ticks < high, amount)
 
     def test_half_a_tick_may_be_passed(self) -> None:
         """By what the squarings lose: so the bound has 511 and 512, and 1,023 and 1,024 would be too near."""

@@ -64,10 +64,10 @@ class Made(unittest.TestCase):
             self.assertIn(b"p" + size.to_bytes(4, "big"), given)
 
     def test_logarithms(self) -> None:
-        """64 times that of 1, 3, 5 and 2^40 stands in a right-hand side, as the first number and the second."""
+        """64 times that of an amount stands in a right-hand side twice, then that less 64 times the next one's."""
         printed = self.made["calls/scenes"].printed.decode().splitlines()
-        for ticks in (0, 1_661_954, 2_434_718, 41_943_040):
-            self.assertTrue(any(line.startswith(f"right {64 * ticks} {64 * ticks} ") for line in printed), ticks)
+        for ticks, next_ticks in ((0, 1_048_576), (1_048_576, 1_661_954), (1_661_954, 2_434_718), (41_943_040, 0)):
+            self.assertIn(f"right {64 * ticks} {64 * ticks} {64 * (ticks - next_ticks)}", printed)
 
     def test_no_file_is_kept_for_two_contents(self) -> None:
         """Programs share inputs, of which each is kept once."""
