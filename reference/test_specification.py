@@ -142,6 +142,7 @@ class Examples(unittest.TestCase):
         below = ceil(1_000 * (0.5 + log2(512 / 511) / 2)) / 1_000
         self.assert_said("From amounts to the loss", "for every amount of 64 bits: 2^(2·log a) ≤ 2·a^(2T) < 2^(2·log a + 3), so that")
         self.assert_said("From amounts to the loss", f"511·a^(2T) < 512·2^(2·log a + 1), so that it is less than {below} ticks below.")
+        self.assertIn(f"the logarithms (rounded to ticks, less than {below} of one off)", README)
 
     def test_what_rounding_is_for(self) -> None:
         self.assertEqual(layout.AMOUNT_LIMITS, (1, 1 << 40))

@@ -25,11 +25,12 @@ from vectors_listing import TABLES_CLOSENESSES
 
 LARGEST_NUMBER = (1 << 32) - 1
 
-# 3 is rounded up, 5 down; the exact logarithm of 2,411 is more than half a tick above the desk's. Where y is rounded otherwise than down, at
-# the start, by a bit of 1 or by a bit of 0, the logarithm is another for one of 1,125, 2,411, 31,139, 49,083, 4,294,968,715 and
+# 3 is rounded up, 5 down; the exact logarithm of 2,411 is more than half a tick above the desk's. Where y is rounded otherwise than down,
+# at the start, by a bit of 1 or by a bit of 0, the logarithm is another for one of 1,125, 2,411, 31,139, 49,083, 4,294,968,715 and
 # 4,294,968,716. The others are powers of two and those beside them.
 LOGARITHMS_OF = (
-    1, 2, 3, 5, 1_125, 2_411, 31_139, 49_083, (1 << 32) - 1, (1 << 32) + 1, 4_294_968_715, 4_294_968_716, (1 << 33) - 1, (1 << 40) - 1, 1 << 40,
+    1, 2, 3, 5, 1_125, 2_411, 31_139, 49_083, (1 << 32) - 1, (1 << 32) + 1, 4_294_968_715, 4_294_968_716, (1 << 33) - 1, (1 << 40) - 1,
+    1 << 40,
 )
 
 

@@ -4,7 +4,8 @@ import re
 import unittest
 
 from believed import border, contract, file_of, modules_of_contract
-from declared import text_of
+from declared import ROOT, text_of
+from unused import without_comments
 
 # What each function at the border ensures, to the letter, and the files of specs that its names come from.
 ARRAYS = "(now (own .entry)) (now (matrix .entry)) (now («right_hand» .entry)) (now (mean .entry))"
@@ -86,7 +87,8 @@ PINNED = {
         "write-worth",
 }
 
-# To the letter, what is said of number 16, of the numbers that there are and of the logarithm: no contract has it, nothing else holds it.
+# To the letter: how a logarithm is found, since a mistake that definition and code share would be proved; and what is said of it, of number
+# 16 and of the numbers that there are, which no contract has.
 TO_THE_LETTER = {
     "laws/Number16": (
         "| module _ (f : Bytes) where abbrev pub oneToTen : Check oneToTen = check1 f then check2 f then check3 f then check4 f "
@@ -101,6 +103,17 @@ TO_THE_LETTER = {
         "openWith16 (holds x μ total) f = answers X keep figures (holds x μ total) (refused 22 0) pub alike-without-16",
         "pub alike-without-16 : (st : State X) (f : Bytes) → openWith16 st f ≡ openCall X keep figures st f unfolding",
         "pub never-16 : (st : State X) (call : Call) (place : ℕ) → outcome X keep figures st call .answer ≢ refused 16 place never-16",
+    ),
+    "definitions/Logarithm": (
+        "| abbrev pub ticksPerDoubling : ℕ | ticksPerDoubling = 1048576 "
+        "| unfoldable pub highestBit : ℕ → ℕ | highestBit a = 63 - leadingZeros 64 a "
+        "| unfoldable pub startFrom : ℕ → ℕ → ℕ | startFrom h a = cond (leb h 31) (a * 2 ^ (31 - h)) (a / 2 ^ (h - 31)) "
+        "| unfoldable pub nextBit : ℕ → ℕ | nextBit y = cond (leb (2 ^ 63) (y * y)) 1 0 "
+        "| unfoldable pub nextY : ℕ → ℕ | nextY y = cond (leb (2 ^ 63) (y * y)) (y * y / 2 ^ 32) (y * y / 2 ^ 31) "
+        "| unfoldable pub bitsOf : ℕ → ℕ → ℕ → ℕ | bitsOf zero y l = l | bitsOf (suc k) y l = bitsOf k (nextY y) (2 * l + nextBit y) "
+        "| abbrev pub squarings : ℕ | squarings = 21 | unfoldable pub halfTicks : ℕ → ℕ "
+        "| halfTicks a = 2 * highestBit a * ticksPerDoubling + bitsOf squarings (startFrom (highestBit a) a) 0 "
+        "| unfoldable pub logarithm : ℕ → ℕ | logarithm a = (halfTicks a + 1) / 2 |",
     ),
     "definitions/JointTable": (
         "pub log-of-1 : logarithm 1 ≡ 0 pub log-of-2^40 : logarithm (2 ^ 40) ≡ 41943040 pub log-of-3 : logarithm 3 ≡ 1661954 pub weight-of",
@@ -166,8 +179,8 @@ class Promises(unittest.TestCase):
 
     def test_what_is_said_to_the_letter(self) -> None:
         for file, said in TO_THE_LETTER.items():
-            text = re.sub(r"--.*", "", text_of("crates/{}/specs/{}.antt".format(*file.split("/"))))
-            lines = " ".join(re.sub(r"\n(?=\S)", " | ", text).split())  # with a bar before whatever stands in no module
+            text = without_comments(ROOT / "crates/{}/specs/{}.antt".format(*file.split("/")))
+            lines = " ".join(re.sub(r"\n(?=\S)|$", " | ", text).split())  # with a bar before whatever stands in no module, and at the end
             for words in said:
                 self.assertIn(words, lines)
         self.assertEqual(text_of("crates/laws/specs/Number16.antt").count("module _"), 2)  # the two that are expected

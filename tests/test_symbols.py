@@ -1,13 +1,18 @@
-"""Symbols mean what a reader takes them to mean: nothing stands in a block of comments, operators and names of the kit are the kit's, and
-where laws are pinned each name of the definitions is that of the definitions."""
+"""Symbols mean what a reader takes them to mean, in what must be believed and in what is pinned: each operator and each name of the kit is
+the kit's, each name of a definition is that definition's, and no text hides in a comment.
+
+A file has such a name by a `use` line that says it, from the one module that it is of. The kit refuses a declaration of a name that is
+brought so, and an operator without a fixity; what would bring a name unsaid is refused here.
+"""
 
 import re
 import unittest
 from collections.abc import Iterator
 
 from believed import reached
-from declared import files, text_of
+from declared import ROOT, files, text_of
 from test_promises import PINNED
+from unused import without_comments
 
 # Where each operator comes from, in code, specs and proofs alike.
 OF_THE_KIT = {
@@ -26,11 +31,39 @@ OF_THE_CRATES = {
     "holding/Decided": "_and_",
     "integers/Solver": "_⊞_ _⊟_ _⊠_ _≐_ ⊖_",
 }
+
+# Fields and variables that have a name of the kit or of a definition, and pins.
+LOCAL = {
+    "chain/Arrays": "closeness own matrix rightHand figuresOf meanOf",
+    "definitions/Page": "own weight",
+    "definitions/Text": "columns",
+    "desk/Calls": "own",
+    "holding/State": "closeness own",
+    "laws/Pinned": "listed machine sweeps",
+    "laws/PinnedPage": "weight",
+    "showing/Shows": "shown own matrix",
+    "telling/Pinned": "length closeness own matrix part",
+    "telling/Told": "length closeness shown own matrix part",
+}
+
 # The kit's names for an option. Here `some` is a field, and `none` what C is told where nothing is refused.
 OF_AN_OPTION = {"some", "none"}
 
-# Where a name of the definitions may come from. What arrays stand for, and a struct of the source, may have the name too.
-MEANT = r"^Rattle·(definitions\.specs\.|chain\.specs\.Arrays$|\w+\.specs\.declared\.)"
+# Besides its own module: what arrays stand for, and a struct of the source, may have the name of a definition too.
+ALSO_MEANT = r"Rattle·(chain\.specs\.Arrays|\w+(·specs)?\.specs\.declared\..*)"
+
+
+def path_of(file: str) -> str:
+    return "crates/{}/specs/{}.antt".format(*file.split("/"))
+
+
+def file_at(path: str) -> str:
+    return re.sub(r"crates/(\w+)/specs/(\w+)\.antt", r"\1/\2", path)
+
+
+def said() -> list[str]:
+    """The files that are to be read: what the contracts rest on, the pins, and the joint table."""
+    return sorted({*reached()[0], *map(path_of, PINNED), path_of("definitions/JointTable")})
 
 
 def sources(ending: str) -> list[str]:
@@ -43,54 +76,79 @@ def imported(name: str) -> Iterator[tuple[str, str]]:
         yield from ((part.strip(), module) for part in names.split(","))
 
 
-def declared(name: str) -> list[str]:
-    """Whatever a file of antt declares, with types, fields and what stands in modules and behind `where`."""
-    types = re.findall(r"^ *(?:abbrev )?(?:pub )?(?:record|data) ([^\s{]+)", text_of(name), re.MULTILINE)
-    return types + re.findall(r"^ *(?:(?:abbrev|unfoldable|pub) )*([^\s(){},;.:=]+) :(?=\s)", text_of(name), re.MULTILINE)
+def is_operator(name: str) -> bool:
+    return bool(re.search(r"(?:^|\s)_|_(?:\s|$)", name))
+
+
+def words_of(name: str) -> set[str]:
+    """The words of a file of antt, without its imports, without fields of a value and what is said to be of a module or a type."""
+    text = re.sub(r"^ *use .*$", "", without_comments(ROOT / name), flags=re.MULTILINE)
+    text = re.sub(r"λ ([^.]*)\.", r"λ \1 ", text)
+    return set(re.split(r"[\s(){},;.«»]+", re.sub(r"\b[A-Z]\w*\.[^\s(){},;.]+|(?<=\s)\.[^\s(){},;.]+", " ", text)))
+
+
+def names_of_the_kit() -> dict[str, set[str]]:
+    """Each name that the specs and the contracts import from the kit, with the modules that it comes from."""
+    found: dict[str, set[str]] = {}
+    for name in sources(".antt") + sources(".rt"):
+        for word, module in imported(name):
+            if "/proofs/" not in name and not module.startswith("Rattle·") and word not in OF_AN_OPTION:
+                found.setdefault(word, set()).add(module)
+    return found
+
+
+def names_of_definitions() -> list[tuple[str, str]]:
+    """Each name that `definitions` declares, and the file of its module."""
+    declared = r"^ *(?:(?:abbrev|unfoldable) pub|pub (?:record|data)) ([^\s{]+)"
+    paths = [path for path in sources(".antt") if path.startswith("crates/definitions/specs/")]
+    return [(word, path) for path in paths for word in re.findall(declared, text_of(path), re.MULTILINE)]
 
 
 class Symbols(unittest.TestCase):
     def test_no_blocks_of_comments(self) -> None:
-        """What is compared to the letter could stand in one."""
+        """What is compared to the letter could stand in one. Nor is a comment taken for one that is a part of a name."""
         for ending, begin in ((".antt", "{-"), (".rt", "/*")):
             self.assertEqual([name for name in sources(ending) if begin in text_of(name)], [])
+        self.assertEqual([name for name in said() if re.search(r"(?<=[^\s-])--", text_of(name))], [])
 
     def test_operators(self) -> None:
         kit = {operator: module for module, operators in OF_THE_KIT.items() for operator in operators.split()}
         own = {operator: file for file, operators in OF_THE_CRATES.items() for operator in operators.split()}
         for name in sources(".antt") + sources(".rt"):
-            for operator, module in imported(name):
-                if re.search(r"(?:^|\s)_|_(?:\s|$)", operator):
-                    found = re.sub(r"Rattle·(\w+?)(?:·specs)?\.specs\.", r"\1/", module)
-                    self.assertEqual(kit.get(operator, own.get(operator)), found, f"{name}: {operator}")
+            for operator, module in filter(lambda pair: is_operator(pair[0]), imported(name)):
+                found = re.sub(r"Rattle·(\w+?)(?:·specs)?\.specs\.", r"\1/", module)
+                self.assertEqual(kit.get(operator, own.get(operator)), found, f"{name}: {operator}")
         for name in sources(".antt"):
-            operators = {word for word in declared(name) if word.startswith("_") or word.endswith("_")}
-            file = re.sub(r"crates/(\w+)/specs/(\w+)\.antt", r"\1/\2", name)
-            self.assertEqual(operators, {operator for operator in own if own[operator] == file}, name)
+            fixities = re.findall(r"^\s*infix[lr]? +\d+ (.*)", text_of(name), re.MULTILINE)
+            operators = {operator for line in fixities for operator in line.split()}
+            self.assertEqual(operators, {operator for operator in own if own[operator] == file_at(name)}, name)
+
+    def test_every_name_is_brought_by_a_line_that_says_it(self) -> None:
+        for name in said():
+            text = without_comments(ROOT / name)
+            self.assertNotRegex(text, r"(?<![^\s(])open\s|(?m:^ *(?:pub )?mod )|(?m:infix(?![lr]? +\d+ ))", name)
+            for line in re.findall(r"^.*(?<![^\s])use\s.*$", text, re.MULTILINE):
+                self.assertRegex(line, r"^use [^\s{}*]+(\.\{[^{}]*\}| as \w+)$", name)
+                self.assertNotRegex(line, r"[{ ]\*[,}]", name)
 
     def test_names_of_the_kit(self) -> None:
-        """In what is said, each comes from one module; what is believed and what is pinned gives none a meaning of its own."""
-        modules: dict[str, set[str]] = {}
-        for name in sources(".antt") + sources(".rt"):
-            for word, module in imported(name):
-                if "/proofs/" not in name and not module.startswith("Rattle·"):
-                    modules.setdefault(word, set()).add(module)
+        modules = names_of_the_kit()
         self.assertEqual({word: several for word, several in modules.items() if len(several) > 1}, {})
-        pinned = ("crates/{}/specs/{}.antt".format(*file.split("/")) for file in PINNED)
-        for name in (*reached()[0], *pinned):
-            self.assertEqual(set(modules) & set(declared(name)) - OF_AN_OPTION, set(), name)
+        signs = {word.strip("_") if is_operator(word) else word: word for word in modules}
+        for name in said():
+            brought = dict(imported(name))
+            for word in words_of(name) & signs.keys() - set(LOCAL.get(file_at(name), "").split()):
+                self.assertIn(brought.get(signs[word]), modules[signs[word]], f"{name}: {word}")
 
-    def test_names_of_the_definitions_where_laws_are_pinned(self) -> None:
-        defined = r"^ *(?:(?:abbrev|unfoldable) pub|pub (?:record|data)) ([^\s{]+)"
-        texts = (text_of(name) for name in sources(".antt") if name.startswith("crates/definitions/specs/"))
-        definitions = {word for text in texts for word in re.findall(defined, text, re.MULTILINE)}
-        for file, pinned in PINNED.items():
-            name = "crates/{}/specs/{}.antt".format(*file.split("/"))
-            self.assertEqual(definitions & set(declared(name)) - set(pinned.split()), set(), name)
-            for word, module in imported(name):
-                self.assertNotIn(" as ", word, name)
-                if word in definitions:
-                    self.assertRegex(module, MEANT, f"{name}: {word}")
+    def test_names_of_the_definitions(self) -> None:
+        definitions = dict(names_of_definitions())
+        self.assertEqual(len(definitions), len(names_of_definitions()))
+        for name in said():
+            brought = dict(imported(name))
+            for word in words_of(name) & definitions.keys() - set(LOCAL.get(file_at(name), "").split()):
+                if definitions[word] != name:
+                    module = rf"Rattle.definitions(·specs)?\.specs\.{file_at(definitions[word]).partition('/')[2]}"
+                    self.assertRegex(brought.get(word, ""), rf"^({module}|{ALSO_MEANT})$", f"{name}: {word}")
 
 
 if __name__ == "__main__":

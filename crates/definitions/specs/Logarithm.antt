@@ -1,4 +1,4 @@
--- Specification, "From amounts to the loss": the logarithm of an amount, to the nearest tick. The number of squarings is a parameter.
+-- Specification, "From amounts to the loss": the logarithm of an amount, rounded to ticks. The number of squarings is a parameter.
 use Prim.Native.Nat.{ℕ, zero, suc, _+_, _*_, _-_, _/_, _^_}
 use mathlib.Core.Bool.{cond}
 use lib.Dec.{leb}

@@ -71,7 +71,7 @@ fn nearest(s: Squaring) -> Ticks
     Ticks(((s.bits + 1) / 2) as i64)
 }
 
-// The logarithm of an amount, to the nearest tick; of 0 it is 0.
+// The logarithm of an amount, rounded to ticks; of 0 it is 0.
 pub fn logarithm_of(a: Amount) -> Ticks
     ensures { λ r. ⌜ r .0 ≡ pos (logarithm (a .0)) ⌝ }
 {
