@@ -1,8 +1,8 @@
 """Symbols mean what a reader takes them to mean, in what must be believed and in what is pinned: each operator and each name of the kit is
 the kit's, each name of a definition is that definition's, and no text hides in a comment.
 
-A file has such a name by a `use` line that says it, from the one module that it is of. The kit refuses a declaration of a name that is
-brought so, and an operator without a fixity; what would bring a name unsaid is refused here.
+A file has such a name by a `use` line that says it, from the one module that it is of. The kit then refuses a declaration of that name, and
+an operator without a fixity. What would bring a name unsaid is refused here, and so are fields and variables of that name.
 """
 
 import re
@@ -35,9 +35,11 @@ OF_THE_CRATES = {
 # Fields and variables that have a name of the kit or of a definition, and pins.
 LOCAL = {
     "chain/Arrays": "closeness own matrix rightHand figuresOf meanOf",
+    "definitions/Matrix": "closeness",
     "definitions/Page": "own weight",
     "definitions/Text": "columns",
     "desk/Calls": "own",
+    "desk/Pinned": "own",
     "holding/State": "closeness own",
     "laws/Pinned": "listed machine sweeps",
     "laws/PinnedPage": "weight",
@@ -80,11 +82,21 @@ def is_operator(name: str) -> bool:
     return bool(re.search(r"(?:^|\s)_|_(?:\s|$)", name))
 
 
+def text_behind_imports(name: str) -> str:
+    return re.sub(r"^ *use .*$", "", without_comments(ROOT / name), flags=re.MULTILINE)
+
+
 def words_of(name: str) -> set[str]:
-    """The words of a file of antt, without its imports, without fields of a value and what is said to be of a module or a type."""
-    text = re.sub(r"^ *use .*$", "", without_comments(ROOT / name), flags=re.MULTILINE)
-    text = re.sub(r"λ ([^.]*)\.", r"λ \1 ", text)
+    """The words of a file of antt, without fields of a value and what is said to be of a module or a type."""
+    text = re.sub(r"λ ([^.]*)\.", r"λ \1 ", text_behind_imports(name))
     return set(re.split(r"[\s(){},;.«»]+", re.sub(r"\b[A-Z]\w*\.[^\s(){},;.]+|(?<=\s)\.[^\s(){},;.]+", " ", text)))
+
+
+def bound_in(name: str) -> set[str]:
+    """The words in front of a colon: what is declared, fields, and variables of statements and modules."""
+    word = r"[^\s(){},;.:=«»]+"
+    groups = re.findall(rf"((?:{word}[ \t»]+)*{word})»?\s*(?:\{{[^{{}}]*\}}\s*)*:(?=\s)", text_behind_imports(name))
+    return {bound for group in groups for bound in re.split(r"[ \t»]+", group)}
 
 
 def names_of_the_kit() -> dict[str, set[str]]:
@@ -137,18 +149,21 @@ class Symbols(unittest.TestCase):
         signs = {word.strip("_") if is_operator(word) else word: word for word in modules}
         for name in said():
             brought = dict(imported(name))
-            for word in words_of(name) & signs.keys() - set(LOCAL.get(file_at(name), "").split()):
+            local = set(LOCAL.get(file_at(name), "").split())
+            for word in words_of(name) & signs.keys() - local:
                 self.assertIn(brought.get(signs[word]), modules[signs[word]], f"{name}: {word}")
+            self.assertLessEqual(bound_in(name) & modules.keys(), local, name)
 
     def test_names_of_the_definitions(self) -> None:
         definitions = dict(names_of_definitions())
         self.assertEqual(len(definitions), len(names_of_definitions()))
         for name in said():
             brought = dict(imported(name))
-            for word in words_of(name) & definitions.keys() - set(LOCAL.get(file_at(name), "").split()):
-                if definitions[word] != name:
-                    module = rf"Rattle.definitions(·specs)?\.specs\.{file_at(definitions[word]).partition('/')[2]}"
-                    self.assertRegex(brought.get(word, ""), rf"^({module}|{ALSO_MEANT})$", f"{name}: {word}")
+            local = {*LOCAL.get(file_at(name), "").split(), *(word for word in definitions if definitions[word] == name)}
+            self.assertLessEqual(bound_in(name) & definitions.keys(), local, name)
+            for word in words_of(name) & definitions.keys() - local:
+                module = rf"Rattle.definitions(·specs)?\.specs\.{file_at(definitions[word]).partition('/')[2]}"
+                self.assertRegex(brought.get(word, ""), rf"^({module}|{ALSO_MEANT})$", f"{name}: {word}")
 
 
 if __name__ == "__main__":
