@@ -51,6 +51,9 @@ LOCAL = {
 # The kit's names for an option. Here `some` is a field, and `none` what C is told where nothing is refused.
 OF_AN_OPTION = {"some", "none"}
 
+# Of the kit, which a clause may have in place of a variable.
+CONSTRUCTORS = {"[]", "zero", "suc", "pos", "negsuc", "true", "false", "inl", "inr"}
+
 # Besides its own module: what arrays stand for, and a struct of the source, may have the name of a definition too.
 ALSO_MEANT = r"Rattle·(chain\.specs\.Arrays|\w+(·specs)?\.specs\.declared\..*)"
 
@@ -93,10 +96,12 @@ def words_of(name: str) -> set[str]:
 
 
 def bound_in(name: str) -> set[str]:
-    """The words in front of a colon: what is declared, fields, and variables of statements and modules."""
-    word = r"[^\s(){},;.:=«»]+"
-    groups = re.findall(rf"((?:{word}[ \t»]+)*{word})»?\s*(?:\{{[^{{}}]*\}}\s*)*:(?=\s)", text_behind_imports(name))
-    return {bound for group in groups for bound in re.split(r"[ \t»]+", group)}
+    """What is declared, fields and variables: the words in front of a colon, those behind `let` and λ, and those of a clause."""
+    text, word = text_behind_imports(name), r"[^\s(){},;.:=«»]+"
+    groups = re.findall(rf"((?:{word}[ \t»]+)*{word})»?\s*(?:\{{[^{{}}]*\}}\s*)*:(?=\s)", text)
+    groups += re.findall(r"(?<![^\s(])(?:let|λ)\s([^.=:]*)", text)
+    groups += re.findall(rf"^ *{word}([^=:{{\n]*) =(?=\s)", text, re.MULTILINE)
+    return {bound for group in groups for bound in re.split(r"[\s(){},;«»]+", group)} - CONSTRUCTORS
 
 
 def names_of_the_kit() -> dict[str, set[str]]:
