@@ -137,7 +137,7 @@ fn check(file: &[u8]) -> Result<Layout, Refusal> {
         }
     }
     for c in 0..2 * at.cells {
-        if !(1..=1 << 40).contains(&unsigned::<8>(file, at.amount(c))) {
+        if !(1..=1 << 44).contains(&unsigned::<8>(file, at.amount(c))) {
             return refuse(9, at.amount(c));
         }
     }

@@ -28,9 +28,9 @@
 extern "C" {
 #endif
 
-#define DESK_VERSION "1.6.0"
+#define DESK_VERSION "1.7.0"
 #define DESK_VERSION_MAJOR 1
-#define DESK_VERSION_MINOR 6
+#define DESK_VERSION_MINOR 7
 #define DESK_VERSION_PATCH 0
 
 #define DESK_PAID UINT64_C(0) /* the channels of a row */
@@ -182,7 +182,7 @@ static inline const char *desk_refusal_text(uint64_t number) {
     case 6: return "a variance of sigma or tau must be from 2^18 to 2^40 squared ticks";
     case 7: return "the variance of a prior must be 0 (no prior) or from 2^18 to 2^46 squared ticks";
     case 8: return "the mean of a prior must be from -2^26 to 2^26 ticks";
-    case 9: return "an amount must be from 1 to 2^40";
+    case 9: return "an amount must be from 1 to 2^44";
     case 10: return "the oldest accident year must end with the same amount paid as incurred";
     case 11: return "each part of a mean must be from -2^26 to 2^26 ticks";
     case 12: return "the number of sweeps must be from 1 to 4,096";

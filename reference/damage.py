@@ -63,7 +63,7 @@ def pairs_of_spoils(lent: bytes, spoils: Spoils) -> Iterator[tuple[int, int, byt
 
 
 def fields_of(last: int) -> list[tuple[str, int, int, int, tuple[int, int]]]:
-    """Name, number, place, width and limits of the first and the last field of each kind, in number order."""
+    """Name, number, place, width and limits of the first and the last field of each kind, and of each block of amounts, in number order."""
     parts = parts_count(last)
     return [
         ("closeness", 5, 6, 4, CLOSENESS_LIMITS),
@@ -74,6 +74,8 @@ def fields_of(last: int) -> list[tuple[str, int, int, int, tuple[int, int]]]:
         ("prior-mean-first", 8, prior_mean_place(last, 0), 4, MEAN_LIMITS),
         ("prior-mean-last", 8, prior_mean_place(last, parts - 1), 4, MEAN_LIMITS),
         ("amount-first", 9, amount_place(last, PAID, 0, 0), 8, AMOUNT_LIMITS),
+        ("amount-end-of-paid", 9, amount_place(last, PAID, last, 0), 8, AMOUNT_LIMITS),
+        ("amount-start-of-incurred", 9, amount_place(last, INCURRED, 0, 0), 8, AMOUNT_LIMITS),
         ("amount-last", 9, amount_place(last, INCURRED, last, 0), 8, AMOUNT_LIMITS),
     ]
 

@@ -17,7 +17,7 @@ VARIANCE_LIMITS = (1 << 18, 1 << 40)
 PRIOR_VARIANCE_LIMITS = (1 << 18, 1 << 46)
 FLAT = 0  # a prior variance besides: of a prior that weighs nothing
 MEAN_LIMITS = (-(1 << 26), 1 << 26)
-AMOUNT_LIMITS = (1, 1 << 40)
+AMOUNT_LIMITS = (1, 1 << 44)
 
 PAID, INCURRED = 0, 1  # the channels of a row
 

@@ -75,11 +75,29 @@ def file_at_limits(last: int, end: int) -> File:
     )
 
 
-def spent_at_a_limit(closeness: int = 1, sign: int = 1) -> File:
-    """J = 1: phi 1 belongs near 66 doublings but is kept at 64, so its residue never comes near enough.
+def largest_figures(last: int) -> File:
+    """Every weight and every prior mean at its highest, and every amount: phi 0 has the largest right-hand side that there is."""
+    high = file_at_limits(last, 1)
+    return replace(
+        file_at_limits(last, 0), closeness=256, prior_means=high.prior_means, paid=high.paid, incurred=high.incurred,
+    )
 
-    psi 0 is held near 52 by a prior at 64 and an observation at 40, year 1 asks phi 1 for 40 more than psi 0,
-    and phi 1's own observation is at 40: half of 92 and 40 is 66. With sign -1 all of it below zero.
+
+def largest_steps(last: int) -> File:
+    """The highest amount beside the lowest, in turn: every observation, up or down, is as large as one can be."""
+    def in_turn(first: int, year: int) -> tuple[int, ...]:
+        return tuple(AMOUNT_LIMITS[(first + column) % 2] for column in range(last - year + 1))
+
+    paid = tuple(in_turn(1, year) for year in range(last + 1))
+    incurred = tuple(in_turn(0, year) for year in range(1, last + 1))  # where paid is high, low; but for year 0, whose ends are equal
+    return replace(largest_figures(last), paid=paid, incurred=paid[:1] + incurred)
+
+
+def spent_at_a_limit(closeness: int = 1, sign: int = 1) -> File:
+    """J = 1: phi 1 belongs near 71 doublings but is kept at 64, so its residue never comes near enough.
+
+    psi 0 is held near 54 by a prior at 64 and an observation at 44, year 1 asks phi 1 for 44 more than psi 0,
+    and phi 1's own observation is at 44: half of 98 and 44 is 71. With sign -1 all of it below zero.
     """
     low, high = AMOUNT_LIMITS[::sign]
     return File(
@@ -95,10 +113,10 @@ def spent_at_a_limit(closeness: int = 1, sign: int = 1) -> File:
 
 
 def spent_without_priors(closeness: int = 1) -> File:
-    """J = 2, no priors: phi 2 belongs at 80 doublings but is kept at 64, so its residue never comes near enough.
+    """J = 2, no priors: phi 2 belongs at 88 doublings but is kept at 64, so its residue never comes near enough.
 
-    phi 1 and psi 0 are held at -20 and 20, psi 1 at 40, by columns of far more weight. Phi 2's own observation is at 40, year 1 asks
-    it for 40 more than psi 1, and year 2 for 40 more than psi 0 and psi 1 less phi 1: a third of 40, 80 and 120 is 80.
+    phi 1 and psi 0 are held at -22 and 22, psi 1 at 44, by columns of far more weight. Phi 2's own observation is at 44, year 1 asks
+    it for 44 more than psi 1, and year 2 for 44 more than psi 0 and psi 1 less phi 1: a third of 44, 88 and 132 is 88.
     """
     low, high = AMOUNT_LIMITS
     return File(
@@ -168,8 +186,20 @@ def drawn_flat_file(rng: Random, last: int | None = None) -> File:
     return without_priors(file, rng.choice((parts, half, parts[:1], parts[-1:])))
 
 
+def drawn_yen_file(rng: Random, last: int | None = None) -> File:
+    """A mild file in a currency of small units: its largest amount is from about 2^41 to 2^44."""
+    file = with_same_end(mild_file(rng, rng.randint(1, 15) if last is None else last))
+    most = max(amount for triangle in (file.paid, file.incurred) for year in triangle for amount in year)
+    units = rng.randint(1 << 41, AMOUNT_LIMITS[1]) // most
+
+    def in_units(triangle: Triangle) -> Triangle:
+        return tuple(tuple(units * amount for amount in year) for year in triangle)
+
+    return replace(file, paid=in_units(file.paid), incurred=in_units(file.incurred))
+
+
 def drawn_any_file(rng: Random, last: int | None = None) -> File:
-    return rng.choice((drawn_file, drawn_flat_file))(rng, last)
+    return rng.choice((drawn_file, drawn_flat_file, drawn_yen_file))(rng, last)
 
 
 def mild_file(rng: Random, last: int) -> File:

@@ -23,7 +23,7 @@ def fields_in_file_order(last: int) -> list[tuple[int, int, int, int, int]]:
     """Place, width, number, low and high of every field behind the head, the places by counting bytes."""
     kinds = [(8, 6, 2**18, 2**40)] * (2 * last + 1)
     kinds += [(4, 8, -(2**26), 2**26), (8, 7, 2**18, 2**46)] * (2 * last + 1)
-    kinds += [(8, 9, 1, 2**40)] * ((last + 1) * (last + 2))
+    kinds += [(8, 9, 1, 2**44)] * ((last + 1) * (last + 2))
     fields, place = [], 10
     for width, *rest in kinds:
         fields.append((place, width, *rest))

@@ -184,7 +184,7 @@ class CommandLine(unittest.TestCase):
     def test_rounding(self) -> None:
         """The figures of the specification."""
         lines = self.run_command("rounding").stdout.decode().splitlines()[1:]
-        self.assertEqual([line.strip() for line in lines], ["cut off  -0.498", "to the nearest  -0.006"])
+        self.assertEqual([line.strip() for line in lines], ["cut off  -0.500", "to the nearest  -0.001"])
 
     def test_judge(self) -> None:
         with tempfile.TemporaryDirectory() as folder:

@@ -121,16 +121,16 @@ class Examples(unittest.TestCase):
         self.assertIn(text, " ".join(section(name).split()))
 
     def test_logarithms_and_weights(self) -> None:
-        logs = {a: logarithm(a) for a in (1, 1 << 40, 3, 5)}
-        self.assertEqual((logs[1], logs[1 << 40] % T), (0, 0))
-        self.assert_said("From amounts to the loss", f"1 has 0, 2^40 has {logs[1 << 40] // T}T = {logs[1 << 40]:,}, "
-                                                     f"3 has {logs[3]:,} and 5 has {logs[5]:,}.")
+        logs = {a: logarithm(a) for a in (1, 1 << 40, 1 << 44, 3, 5)}
+        self.assertEqual((logs[1], logs[1 << 40], logs[1 << 44]), (0, 40 * T, 44 * T))
+        self.assert_said("From amounts to the loss", f"1 has 0, 2^40 has 40T = {logs[1 << 40]:,}, 2^44, the largest amount, has 44T = "
+                                                     f"{logs[1 << 44]:,}, 3 has {logs[3]:,} and 5 has {logs[5]:,}.")
         self.assertEqual((weight(1 << 18), weight(1 << 46), weight(0)), (1 << 28, 1, 0))
         said = "2^28 for 2^18, 1 for 2^46. The weight of 0, the variance of a part without a prior, is 0."
         self.assert_said("From amounts to the loss", said)
 
     def test_how_a_logarithm_is_found(self) -> None:
-        self.assertEqual((SQUARINGS, half_ticks(1 << 40)), (21, 2 * 40 * T))
+        self.assertEqual((SQUARINGS, half_ticks(1 << 44)), (21, 2 * 44 * T))
         for said in (
             f"Then {SQUARINGS} times: if u² ≥ 2^63, note the bit 1",
             f"Let L' be 2h·T plus the number that the {SQUARINGS} bits spell, first bit highest:", "Then log a is floor((L' + 1) / 2),",
@@ -145,9 +145,9 @@ class Examples(unittest.TestCase):
         self.assertIn(f"the logarithms (rounded to ticks, less than {below} of one off)", README)
 
     def test_what_rounding_is_for(self) -> None:
-        self.assertEqual(layout.AMOUNT_LIMITS, (1, 1 << 40))
+        self.assertEqual(layout.AMOUNT_LIMITS, (1, 1 << 44))
         cut, nearest = (f"{float(error):.3f}".replace("-", "−") for error in mean_errors(DEFAULT_SEED))
-        self.assert_said("From amounts to the loss", f"over {DRAWN:,} amounts drawn from 1 to 2^40 the mean of log a less the "
+        self.assert_said("From amounts to the loss", f"over {DRAWN:,} amounts drawn from 1 to 2^44 the mean of log a less the "
                                                      f"exact logarithm is {nearest} ticks, where cut off, as floor(L' / 2), it is {cut} ")
 
     def test_of_file_f(self) -> None:

@@ -9,6 +9,7 @@ import layout
 import paper
 import samples
 import session
+import vectors_amounts
 import vectors_flat_priors
 from call_bytes import (
     CLOSE, FIGURES, call_judge, call_open, call_page, call_read, call_row, call_sweep, number, string,
@@ -30,12 +31,12 @@ LARGEST_NUMBER = (1 << 32) - 1
 # 4,294,968,716. The others are powers of two and those beside them.
 LOGARITHMS_OF = (
     1, 2, 3, 5, 1_125, 2_411, 31_139, 49_083, (1 << 32) - 1, (1 << 32) + 1, 4_294_968_715, 4_294_968_716, (1 << 33) - 1, (1 << 40) - 1,
-    1 << 40,
+    1 << 40, (1 << 44) - 1, 1 << 44,
 )
 
 
 def script_of_scenes(seed: int, drawn_sessions: int = 60) -> bytes:
-    rng, flat = Random(f"calls {seed}"), Random(f"calls without priors {seed}")
+    rng, flat, yen = (Random(f"calls {seed}"), Random(f"calls without priors {seed}"), Random(f"calls in yen {seed}"))
     scenes: list[Iterable[bytes]] = [
         figures_of_document(),
         logarithms_shown(),
@@ -58,9 +59,11 @@ def script_of_scenes(seed: int, drawn_sessions: int = 60) -> bytes:
         damaged_files(rng),
         *(drawn_session(rng) for _ in range(drawn_sessions)),
         flat_priors_beside_others(),
-        *(flat_priors(file) for file in vectors_flat_priors.accepted_files().values()),
+        *(from_the_prior(file) for file in vectors_flat_priors.accepted_files().values()),
         *(settle_and_read(flat, samples.drawn_flat_file(flat, last)) for last in (1, 2, 3, 5, 9, LARGEST_YEAR)),
         *(drawn_session(flat, samples.drawn_flat_file) for _ in range(drawn_sessions // 4)),
+        *(from_the_prior(file) for file in vectors_amounts.accepted_files().values()),
+        *(drawn_session(yen, samples.drawn_yen_file) for _ in range(drawn_sessions // 10)),
     ]
     return b"".join(call for scene in scenes for call in scene)
 
@@ -267,7 +270,7 @@ def flat_priors_beside_others() -> Iterator[bytes]:
         yield from (call_row(lent, 1, lent[5]), call_open(lent), CLOSE)
 
 
-def flat_priors(file: File) -> Iterator[bytes]:
+def from_the_prior(file: File) -> Iterator[bytes]:
     """Figures, means near the settled one, and the session from its start, which is the prior means, to the end."""
     yield from (call_open(build_file(file)), FIGURES, call_judge(build_record(file.prior_means)))
     yield from (call_sweep(1), call_read(record_length(file.last)))

@@ -5,6 +5,7 @@ from random import Random
 import layout
 import paper
 import samples
+import vectors_amounts
 import vectors_flat_priors
 from damage import SPOIL_FILE, drawn_file_damage, fields_of, put
 from layout import LARGEST_YEAR, LONGEST_FILE, build_file
@@ -25,6 +26,7 @@ def listing_inputs(seed: int) -> dict[str, bytes]:
         **{name: build_file(file) for name, file in years.items()},
         **{f"damaged-{k}": drawn_file_damage(rng, build_file(samples.drawn_file(rng, 2))) for k in range(8)},
         **vectors_flat_priors.inputs(),
+        **vectors_amounts.inputs(),
     }
 
 

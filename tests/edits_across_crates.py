@@ -2,8 +2,8 @@
 
 The kit's must-fail edits are tried on one crate alone. An edit of `definitions` that no figure of the joint table shows is
 refused by a law, so it is tried here: the edited crate must still be proved, and the crate named in `refused-by:` must not.
-Each file of tests/edits/ has a comment, then the lines `crate:`, `file:`, `old:`, `new:`, `refused-by:` and `first-at:`, the file of
-the first error, so that an edit which comes to be refused for another reason shows.
+Each file of tests/edits/ has a comment, then the lines `crate:`, `file:`, `old:`, `new:`, of which there may be several as in the kit's
+edits, `refused-by:` and `first-at:`, the file of the first error, so that an edit which comes to be refused for another reason shows.
 """
 
 import os
@@ -16,6 +16,7 @@ from concurrent.futures import ThreadPoolExecutor
 from pathlib import Path
 
 from declared import ROOT, dependencies
+from try_edit import make
 
 EDITS = ROOT / "tests" / "edits"
 
@@ -39,11 +40,8 @@ def complaint(path: Path) -> str | None:
         for name in wanted:
             shutil.copytree(ROOT / "crates" / name, Path(folder) / "crates" / name, ignore=shutil.ignore_patterns("must-fail"))
         Path(folder, "crates.txt").write_text("".join(f"{name}: {' '.join(crates[name])}\n" for name in wanted))
-        edited = Path(folder) / "crates" / edit["crate"] / edit["file"]
-        text = edited.read_text()
-        if text.count(edit["old"]) != 1:
-            return f"its old text is {text.count(edit['old'])} times in {edit['file']}"
-        edited.write_text(text.replace(edit["old"], edit["new"]))
+        if said := make(path, Path(folder) / "crates" / edit["crate"]):
+            return said
         checked = subprocess.run(["rt", "check"], cwd=folder, capture_output=True, text=True, env={**os.environ, "RT_JOBS": "1"})
     said = checked.stdout + checked.stderr
     refused = re.findall(r"^rt: (\w+) NOT PROVED", said, re.MULTILINE)

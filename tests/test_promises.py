@@ -59,7 +59,10 @@ PINNED = {
     "laws/Pinned":
         "Each Worth nearly-least near strictly-least worth Near room limits m u some exact half rounded at-the-bound near-passes "
         "Machine opens judges judges-alone sweeps reads reads-alone pages pages-alone shows tells closes machine in-table same-outcomes "
-        "row-empty loss-around divided-fits paid-sum-fits incurred-sum-fits",
+        "row-empty loss-around",
+    "laws/PinnedAmounts":
+        "amount-taken to-2^40 as-before opened-as-before row-as-before same-to-2^40 logarithm-to paid-step-to incurred-step-to "
+        "last-ratio-to paid-sum-to incurred-sum-to right-hand-to residue-to divided-to",
     "laws/PinnedLogarithms": "logarithm-bounded logarithm-nearest larger-logarithm one-tick-at-most largest-logarithm",
     "laws/PinnedPage": "page-bytes name-on-page index-on-page ticks-on-page weight-on-page spaces-on-page never-shared",
     "laws/PinnedPriors":
@@ -87,8 +90,8 @@ PINNED = {
         "write-worth",
 }
 
-# To the letter: how a logarithm is found, since a mistake that definition and code share would be proved; and what is said of it, of number
-# 16 and of the numbers that there are, which no contract has.
+# To the letter: how a logarithm is found, since a mistake that definition and code share would be proved; and what is said of it, of
+# amounts, of number 16 and of the numbers that there are, which no contract has.
 TO_THE_LETTER = {
     "laws/Number16": (
         "| module _ (f : Bytes) where abbrev pub oneToTen : Check oneToTen = check1 f then check2 f then check3 f then check4 f "
@@ -116,7 +119,8 @@ TO_THE_LETTER = {
         "| unfoldable pub logarithm : ℕ → ℕ | logarithm a = (halfTicks a + 1) / 2 |",
     ),
     "definitions/JointTable": (
-        "pub log-of-1 : logarithm 1 ≡ 0 pub log-of-2^40 : logarithm (2 ^ 40) ≡ 41943040 pub log-of-3 : logarithm 3 ≡ 1661954 pub weight-of",
+        "pub log-of-1 : logarithm 1 ≡ 0 pub log-of-2^40 : logarithm (2 ^ 40) ≡ 41943040 pub log-of-2^44 : logarithm (2 ^ 44) ≡ 46137344 "
+        "pub log-of-3 : logarithm 3 ≡ 1661954 pub weight-of",
         "| pub jointTable : JointTable | unfolding",
     ),
     "laws/PinnedLogarithms": (
@@ -126,7 +130,32 @@ TO_THE_LETTER = {
         "| pub larger-logarithm : (a b : ℕ) → 1 ≤ a → a ≤ b → b < 2 ^ 64 → logarithm a ≤ logarithm b | larger-logarithm",
         "| pub one-tick-at-most : (a : ℕ) → let y : ℕ = startFrom (highestBit a) a in "
         "logarithm a ≡ highestBit a * 1048576 + bitsOf 20 y 0 + bitsOf 21 y 0 % 2 | one-tick-at-most",
-        "| pub largest-logarithm : (a : ℕ) → 1 ≤ a → a ≤ 2 ^ 40 → logarithm a ≤ 41943040 | largest-logarithm",
+        "| pub largest-logarithm : (a : ℕ) → 1 ≤ a → a ≤ 2 ^ 44 → logarithm a ≤ 46137344 | largest-logarithm",
+    ),
+    "laws/PinnedAmounts": (
+        "| pub amount-taken : (a : ℕ) → (goodAmount a ≡ true) ↔ ((1 ≤ a) × (a ≤ 17592186044416)) | amount-taken",
+        "| module _ (f : Bytes) where abbrev J : ℕ J = lastYear f abbrev c : Chain c = chainOf f abbrev pub to-2^40 : Check "
+        "to-2^40 = check1 f then check2 f then check3 f then check4 f then check5 f then check6 f then check7 f then check8 f "
+        "then fields (λ k. within 1 1099511627776 (amount f k)) 9 (amountAt J) 0 (2 * cells J) then check10 f "
+        "module _ (was : isClear to-2^40 ≡ true) where pub as-before : accepted f ≡ true as-before =",
+        "pub opened-as-before : (X : Type 0) (keep : Bytes → X) (figures : X → Figures) "
+        "→ openUnless X keep figures to-2^40 f ≡ openCall X keep figures empty f opened-as-before =",
+        "pub row-as-before : (channel year : ℕ) "
+        "→ to-2^40 then unless (leb channel 1) 14 0 then unless (leb year J) 15 0 ≡ rowCheck f channel year row-as-before =",
+        "pub same-to-2^40 : ((k : ℕ) → k < 2 * cells J → (amount f k ≤ 1099511627776) ⊎ (17592186044416 < amount f k)) "
+        "→ to-2^40 ≡ fileCheck f same-to-2^40 =",
+        "module _ (yes-file : accepted f ≡ true) where known : AcceptedFile f known = accepted-file f yes-file "
+        "pub logarithm-to : (k : ℕ) → k < 2 * cells J → logarithm (amount f k) ≤ 46137344 logarithm-to",
+        "pub paid-step-to : (i j : ℕ) → i + j ≤ J → natAbs (paidStep f i j) ≤ 46137344 paid-step-to =",
+        "pub incurred-step-to : (i j : ℕ) → i + j < J → natAbs (incurredStep f i j) ≤ 46137344 incurred-step-to =",
+        "pub last-ratio-to : (i : ℕ) → i ≤ J → natAbs (lastRatio f i) ≤ 46137344 last-ratio-to =",
+        "pub paid-sum-to : (j : ℕ) → j ≤ J → natAbs (sum (J - j + 1) (λ i. paidStep f i j)) ≤ 738197504 paid-sum-to =",
+        "pub incurred-sum-to : (j : ℕ) → j < J → natAbs (sum (J - j) (λ i. incurredStep f i j)) ≤ 692060160 incurred-sum-to =",
+        "pub right-hand-to : (k : ℕ) → k < 2 * J + 1 → natAbs (rightHand c k) ≤ 2196 * 2 ^ 47 right-hand-to =",
+        "pub residue-to : (μ : Vector) → ((l : ℕ) → l < 2 * J + 1 → natAbs (μ l) ≤ 67108864) "
+        "→ (k : ℕ) → k < 2 * J + 1 → natAbs (residueTimes c 1 μ k) ≤ 19732 * 2 ^ 47 residue-to =",
+        "pub divided-to : (μ : Vector) → ((l : ℕ) → l < 2 * J + 1 → natAbs (μ l) ≤ 67108864) "
+        "→ (k : ℕ) → k < 2 * J + 1 → natAbs (matrix c k k -ℤ pos 2 *ℤ residueTimes c 1 μ k) ≤ 39465 * 2 ^ 47 divided-to =",
     ),
     "laws/Pinned": (
         "| pub in-table : (X : Type 0) (keep : Bytes → X) (figures : X → Figures) (st : State X) (call : Call) (number place : ℕ) "
@@ -151,6 +180,12 @@ STARRED = {
 WITHOUT_PRIORS = {
     "weight-of-0", "flat-accepted", "flat-own", "flat-matrix", "flat-right-hand", "flat-listing", "flat-start",
     "flat-mean-above", "flat-first", "flat-last", "prior-variance-1", "prior-variance-below", "prior-variance-above",
+}
+
+# The largest amounts, and those that are refused.
+OF_THE_AMOUNTS = {
+    "log-of-2^44", "largest-accepted", "largest-right-hand", "beside-1-right-hand", "paid-first-above", "paid-last-above",
+    "incurred-first-above", "incurred-last-above", "amount-0",
 }
 
 # Those of document 02's page and of its call, and the listing beside them.
@@ -183,7 +218,8 @@ class Promises(unittest.TestCase):
             lines = " ".join(re.sub(r"\n(?=\S)|$", " | ", text).split())  # with a bar before whatever stands in no module, and at the end
             for words in said:
                 self.assertIn(words, lines)
-        self.assertEqual(text_of("crates/laws/specs/Number16.antt").count("module _"), 2)  # the two that are expected
+        for file, modules in (("Number16", 2), ("PinnedAmounts", 3)):  # those that are expected
+            self.assertEqual(text_of(f"crates/laws/specs/{file}.antt").count("module _"), modules)
 
     def test_a_session_is_private(self) -> None:
         fields = re.search(r"pub struct Session \{(.*?)\}", text_of("crates/session/src/lib.rt"), re.DOTALL)[1]
@@ -191,7 +227,7 @@ class Promises(unittest.TestCase):
 
     def test_cases_of_the_joint_table(self) -> None:
         table = text_of("crates/definitions/specs/JointTable.antt").split("pub record JointTable")[1].split("pub jointTable")[0]
-        self.assertEqual(set(re.findall(r"^  pub (\S+) :", table, re.MULTILINE)), STARRED | OF_THE_PAGE | WITHOUT_PRIORS)
+        self.assertEqual(set(re.findall(r"^  pub (\S+) :", table, re.MULTILINE)), STARRED | OF_THE_PAGE | WITHOUT_PRIORS | OF_THE_AMOUNTS)
 
     def test_every_call_is_in_the_specification(self) -> None:
         for module in ("calls", "state"):

@@ -32,6 +32,16 @@ def changes(edit: Path) -> list[tuple[str, str, str]]:
     return found
 
 
+def make(edit: Path, crate: Path) -> str | None:
+    """Makes the edit in a copy of its crate, or says what is in the way."""
+    for file, old, new in changes(edit):
+        text = (crate / file).read_text()
+        if text.count(old) != 1:
+            return f"its old text is {text.count(old)} times in {file}: {old}"
+        (crate / file).write_text(text.replace(old, new))
+    return None
+
+
 def copy_to(folder: Path) -> None:
     shutil.copytree(ROOT / "crates", folder / "crates", ignore=shutil.ignore_patterns("must-fail"))
     shutil.copy(ROOT / "crates.txt", folder)
@@ -45,11 +55,8 @@ def tried(edit: Path) -> str:
     crate = edit.parent.parent.name
     with tempfile.TemporaryDirectory() as name:
         copy_to(Path(name))
-        for file, old, new in changes(edit):
-            path = Path(name, "crates", crate, file)
-            if path.read_text().count(old) != 1:
-                sys.exit(f"{edit.name}: its old text is {path.read_text().count(old)} times in {file}: {old}")
-            path.write_text(path.read_text().replace(old, new))
+        if said := make(edit, Path(name, "crates", crate)):
+            sys.exit(f"{edit.name}: {said}")
         done = subprocess.run(["rt", "dev", crate], cwd=name, capture_output=True, text=True)
     return (done.stdout + done.stderr).replace(f"{name}/", "")
 

@@ -56,7 +56,7 @@ CLOSENESS = Kind(4, (1, 1 << 16), Unit.TICKS)
 VARIANCE = Kind(8, (1 << 18, 1 << 40), Unit.VARIANCE)
 PRIOR_VARIANCE = Kind(8, (1 << 18, 1 << 46), Unit.VARIANCE, zero="no prior")
 PART = Kind(4, (-(1 << 26), 1 << 26), Unit.LOGARITHM, signed=True)  # of a mean, and of the prior mean
-AMOUNT = Kind(8, (1, 1 << 40))
+AMOUNT = Kind(8, (1, 1 << 44))
 
 
 @dataclass(frozen=True)

@@ -13,7 +13,7 @@ WORDS = {
     6: "a variance of sigma or tau must be from 2^18 to 2^40 squared ticks",
     7: "the variance of a prior must be 0 (no prior) or from 2^18 to 2^46 squared ticks",
     8: "the mean of a prior must be from -2^26 to 2^26 ticks",
-    9: "an amount must be from 1 to 2^40",
+    9: "an amount must be from 1 to 2^44",
     10: "the oldest accident year must end with the same amount paid as incurred",
     11: "each part of a mean must be from -2^26 to 2^26 ticks",
     12: "the number of sweeps must be from 1 to 4,096",

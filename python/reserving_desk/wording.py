@@ -39,7 +39,7 @@ def limits(low: int, high: int, unit: Unit = Unit.NUMBER) -> str:
 
 
 def allowed(kind: Kind) -> str:
-    """What the desk accepts in a field, as "1 to 1,099,511,627,776"."""
+    """What the desk accepts in a field, as "1 to 17,592,186,044,416"."""
     return limits(*kind.limits, kind.unit) + (f", or 0 for {kind.zero}" if kind.zero else "")
 
 

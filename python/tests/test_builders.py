@@ -68,7 +68,7 @@ class Files(unittest.TestCase):
         variance = "must be from 262,144 to 1,099,511,627,776, a standard deviation from 0.00034 to 0.69: its 8 bytes cannot hold"
         prior = "must be from 262,144 to 70,368,744,177,664, a standard deviation from 0.00034 to 5.5, or 0 for no prior: " \
             "its 8 bytes cannot hold"
-        amount = "must be from 1 to 1,099,511,627,776: its 8 bytes cannot hold"
+        amount = "must be from 1 to 17,592,186,044,416: its 8 bytes cannot hold"
         wrong = {
             f"closeness {ticks} 4,294,967,296": replace(f, closeness=1 << 32),
             f"closeness {ticks} -1": replace(f, closeness=-1),

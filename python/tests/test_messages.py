@@ -57,8 +57,10 @@ class OfAFile(unittest.TestCase):
         self.assert_said(damage.put(F, 46, -(1 << 26) - 1, 4), f"refused 8 at 46: {words} ({said}; allowed are {PARTS})")
 
     def test_amounts(self) -> None:
-        said = "the paid amount of accident year 1, development year 0, is 0; allowed are 1 to 1,099,511,627,776"
-        self.assert_said(damage.put(F, 86, 0, 8), f"refused 9 at 86: an amount must be from 1 to 2^40 ({said})")
+        words = "an amount must be from 1 to 2^44"
+        for amount, told in ((0, "0"), ((1 << 44) + 1, "17,592,186,044,417")):
+            said = f"the paid amount of accident year 1, development year 0, is {told}; allowed are 1 to 17,592,186,044,416"
+            self.assert_said(damage.put(F, 86, amount, 8), f"refused 9 at 86: {words} ({said})")
         said = "the paid amount of accident year 0, development year 1, is 2,048, and the incurred amount is 4,096"
         words = "the oldest accident year must end with the same amount paid as incurred"
         self.assert_said(damage.put(F, 102, 1 << 12, 8), f"refused 10 at 78: {words} ({said})")
@@ -66,7 +68,7 @@ class OfAFile(unittest.TestCase):
     def test_limits_alone(self) -> None:
         for place, value, width, limits in (
             (4, 0, 1, "1"), (5, 0, 1, "1 to 15"), (6, 0, 4, "1 to 65,536 ticks"), (10, 0, 8, VARIANCES),
-            (86, 0, 8, "1 to 1,099,511,627,776"), (102, 1 << 12, 8, "4,096, as incurred"),
+            (86, 0, 8, "1 to 17,592,186,044,416"), (102, 1 << 12, 8, "4,096, as incurred"),
         ):
             self.assertEqual(refusal_of(lambda: Session().open(damage.put(F, place, value, width))).limits, limits)
 

@@ -137,7 +137,7 @@ class Fields(unittest.TestCase):
                 for column in range(LAST - year + 1):
                     place = layout.amount_place(LAST, channel, year, column)
                     said = f"{name} amount of accident year {year}, development year {column}"
-                    self.assert_field(9, place, said, (1 << 40) + 1 + column, 8)
+                    self.assert_field(9, place, said, (1 << 44) + 1 + column, 8)
 
     def test_parts_of_a_record(self) -> None:
         for part, name in enumerate(self.part_names()):

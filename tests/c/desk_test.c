@@ -121,8 +121,11 @@ static const struct { size_t place, width; uint64_t value, number, refused_at; }
     {62, 8, (UINT64_C(1) << 46) + 1, 7, 62},
     {34, 4, (uint64_t)(-MOST_PART - 1), 8, 34},
     {58, 4, (uint64_t)(MOST_PART + 1), 8, 58},
-    {70, 8, (UINT64_C(1) << 40) + 1, 9, 70},
+    {70, 8, (UINT64_C(1) << 44) + 1, 9, 70},
+    {86, 8, (UINT64_C(1) << 44) + 1, 9, 86},
     {86, 8, 0, 9, 86},
+    {94, 8, (UINT64_C(1) << 44) + 1, 9, 94},
+    {110, 8, (UINT64_C(1) << 44) + 1, 9, 110},
     {110, 8, 0, 9, 110},
     {102, 8, 1 << 12, 10, 78},
 };
@@ -162,7 +165,7 @@ static void test_limits_are_taken(void) {
         {10, 8, 1 << 18, UINT64_C(1) << 40},
         {34, 4, (uint64_t)-MOST_PART, (uint64_t)MOST_PART},
         {38, 8, 1 << 18, UINT64_C(1) << 46},
-        {86, 8, 1, UINT64_C(1) << 40},
+        {86, 8, 1, UINT64_C(1) << 44},
     };
     for (size_t k = 0; k < COUNT(LIMITS); k++) {
         for (int high = 0; high <= 1; high++) {

@@ -1,5 +1,5 @@
--- The specification's examples that document 01 marks with a star ("Figures to agree on"), the page and the listing of F, and F without
--- priors, together, computed from the definitions.
+-- The specification's examples that document 01 marks with a star ("Figures to agree on"), the page and the listing of F, F without
+-- priors, and F with the largest amounts, together, computed from the definitions.
 use Prim.Native.Nat.{ℕ, _+_, _^_}
 use mathlib.Core.Path.{_≡_, refl}
 use mathlib.Core.Bool.{true}
@@ -42,19 +42,30 @@ below-2^18-in-8 = 0 ∷ 0 ∷ 0 ∷ 0 ∷ 0 ∷ 3 ∷ 255 ∷ 255 ∷ []
 abbrev above-2^46-in-8 : Bytes
 above-2^46-in-8 = 0 ∷ 0 ∷ 64 ∷ 0 ∷ 0 ∷ 0 ∷ 0 ∷ 1 ∷ []
 
+-- 2^44, and one above it
+abbrev 2^44-in-8 : Bytes
+2^44-in-8 = 0 ∷ 0 ∷ 16 ∷ 0 ∷ 0 ∷ 0 ∷ 0 ∷ 0 ∷ []
+
+abbrev above-2^44-in-8 : Bytes
+above-2^44-in-8 = 0 ∷ 0 ∷ 16 ∷ 0 ∷ 0 ∷ 0 ∷ 0 ∷ 1 ∷ []
+
 -- 256·b, for the amounts
 abbrev amount-in-8 : ℕ → Bytes
 amount-in-8 b = 0 ∷ 0 ∷ 0 ∷ 0 ∷ 0 ∷ 0 ∷ b ∷ 0 ∷ []
 
--- the first prior mean and the prior variances are left open
-abbrev fileOf : ℕ → (m₀ v₀ v₁ v₂ : Bytes) → Bytes
-fileOf e m₀ v₀ v₁ v₂ =
+-- all that stands before the amounts; the first prior mean and the prior variances are left open
+abbrev before : ℕ → (m₀ v₀ v₁ v₂ : Bytes) → Bytes
+before e m₀ v₀ v₁ v₂ =
     (0 ∷ 0 ∷ 0 ∷ 118 ∷ 1 ∷ 1 ∷ 0 ∷ 0 ∷ 0 ∷ e ∷ [])
     ++ 2^30-in-8 ++ 2^30-in-8 ++ 2^30-in-8
     ++ m₀ ++ v₀
     ++ (0 ∷ 16 ∷ 0 ∷ 0 ∷ []) ++ v₁
     ++ (255 ∷ 240 ∷ 0 ∷ 0 ∷ []) ++ v₂
-    -- paid 2^10, 2^11 / 2^10; incurred 2^12, 2^11 / 2^12
+
+-- paid 2^10, 2^11 / 2^10; incurred 2^12, 2^11 / 2^12
+abbrev fileOf : ℕ → (m₀ v₀ v₁ v₂ : Bytes) → Bytes
+fileOf e m₀ v₀ v₁ v₂ =
+    before e m₀ v₀ v₁ v₂
     ++ amount-in-8 4 ++ amount-in-8 8 ++ amount-in-8 4
     ++ amount-in-8 16 ++ amount-in-8 8 ++ amount-in-8 16
 
@@ -71,6 +82,10 @@ flatF = fileOf 1 10T-in-4 0-in-8 0-in-8 0-in-8
 -- the same with the first prior mean at 2^26 + b
 abbrev flatFrom : ℕ → Bytes
 flatFrom b = fileOf 1 (4 ∷ 0 ∷ 0 ∷ b ∷ []) 0-in-8 0-in-8 0-in-8
+
+-- F with other amounts, paid p₀, e / p₁ and incurred i₀, e / i₁: year 0 ends with the same one
+abbrev amountsF : (p₀ e p₁ i₀ i₁ : Bytes) → Bytes
+amountsF p₀ e p₁ i₀ i₁ = before 1 10T-in-4 2^46-in-8 2^46-in-8 2^46-in-8 ++ p₀ ++ e ++ p₁ ++ i₀ ++ e ++ i₁
 
 -- what a session holds that opened it
 abbrev openedFrom : ℕ → State Figures
@@ -96,6 +111,7 @@ pageOfF st size = pageCall Figures figuresOf (λ G. G) st (replicate size 165)
 pub record JointTable : Type 0 where
   pub log-of-1 : logarithm 1 ≡ 0
   pub log-of-2^40 : logarithm (2 ^ 40) ≡ 41943040
+  pub log-of-2^44 : logarithm (2 ^ 44) ≡ 46137344
   pub log-of-3 : logarithm 3 ≡ 1661954
   pub weight-of-2^18 : weight (2 ^ 18) ≡ 2 ^ 28
   pub weight-of-2^46 : weight (2 ^ 46) ≡ 1
@@ -163,6 +179,23 @@ pub record JointTable : Type 0 where
   pub prior-variance-1 : fileCheck (fileOf 1 10T-in-4 1-in-8 2^46-in-8 2^46-in-8) ≡ refuses 7 38
   pub prior-variance-below : fileCheck (fileOf 1 10T-in-4 0-in-8 below-2^18-in-8 0-in-8) ≡ refuses 7 50
   pub prior-variance-above : fileCheck (fileOf 1 10T-in-4 0-in-8 0-in-8 above-2^46-in-8) ≡ refuses 7 62
+  -- document 02, amounts to 2^44: in every cell, and beside 1 in the paid step, the incurred step and the last ratio
+  pub largest-accepted : accepted (amountsF 2^44-in-8 2^44-in-8 2^44-in-8 2^44-in-8 2^44-in-8) ≡ true
+  -- 10T + 65,536·88T, T, −T
+  pub largest-right-hand :
+      figuresOf (amountsF 2^44-in-8 2^44-in-8 2^44-in-8 2^44-in-8 2^44-in-8) .rightHand
+      ≡ pos 6047324438528 ∷ pos 1048576 ∷ negsuc 1048575 ∷ []
+  -- 10T, T + (65,536 + 32,768)·44T, −T + (65,536 − 32,768)·44T
+  pub beside-1-right-hand :
+      figuresOf (amountsF 1-in-8 2^44-in-8 1-in-8 1-in-8 2^44-in-8) .rightHand
+      ≡ pos 10485760 ∷ pos 4535486513152 ∷ pos 1511827439616 ∷ []
+  -- and 2^44 + 1 is refused, in the first and the last cell of each block
+  pub paid-first-above : fileCheck (amountsF above-2^44-in-8 2^44-in-8 2^44-in-8 2^44-in-8 2^44-in-8) ≡ refuses 9 70
+  pub paid-last-above : fileCheck (amountsF 1-in-8 2^44-in-8 above-2^44-in-8 above-2^44-in-8 2^44-in-8) ≡ refuses 9 86
+  pub incurred-first-above : fileCheck (amountsF 1-in-8 2^44-in-8 1-in-8 above-2^44-in-8 0-in-8) ≡ refuses 9 94
+  pub incurred-last-above : fileCheck (amountsF 1-in-8 2^44-in-8 1-in-8 1-in-8 above-2^44-in-8) ≡ refuses 9 110
+  -- and so is 0
+  pub amount-0 : fileCheck (amountsF 1-in-8 2^44-in-8 0-in-8 1-in-8 1-in-8) ≡ refuses 9 86
 
 pub jointTable : JointTable
 unfolding leadingZeros sum total tabFrom logarithm halfTicks bitsOf highestBit startFrom nextBit nextY weight bigEndian unsigned
@@ -173,6 +206,7 @@ unfolding leadingZeros sum total tabFrom logarithm halfTicks bitsOf highestBit s
 jointTable = record {
   log-of-1 = refl;
   log-of-2^40 = refl;
+  log-of-2^44 = refl;
   log-of-3 = refl;
   weight-of-2^18 = refl;
   weight-of-2^46 = refl;
@@ -213,4 +247,12 @@ jointTable = record {
   prior-variance-1 = refl;
   prior-variance-below = refl;
   prior-variance-above = refl;
+  largest-accepted = refl;
+  largest-right-hand = refl;
+  beside-1-right-hand = refl;
+  paid-first-above = refl;
+  paid-last-above = refl;
+  incurred-first-above = refl;
+  incurred-last-above = refl;
+  amount-0 = refl;
 }

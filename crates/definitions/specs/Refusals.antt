@@ -43,7 +43,7 @@ abbrev pub closenessLimit : ℕ
 closenessLimit = 65536
 
 abbrev pub amountLimit : ℕ
-amountLimit = 2 ^ 40
+amountLimit = 2 ^ 44
 
 -- a variance of the file: 2^18 to 2^40
 abbrev pub goodVariance : ℕ → Bool

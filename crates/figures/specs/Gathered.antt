@@ -1,5 +1,5 @@
 -- From an accepted file: what each function asks holds, and the figures that are gathered are the specification's.
-use Prim.Native.Nat.{ℕ, _-_, _^_, _≤_, _<_}
+use Prim.Native.Nat.{ℕ, _*_, _-_, _^_, _≤_, _<_}
 use mathlib.Core.Path.{_≡_, _∙_}
 use mathlib.Core.List.{List}
 use native.Mathlib.Decide.{decLe}
@@ -16,7 +16,7 @@ use Rattle.laws.specs.Accepted.{AcceptedFile}
 use Rattle.laws.specs.WeightLaws.{weight-at-most}
 use Rattle.laws.specs.FileBounds.{prior-to, g-to}
 use Rattle.laws.specs.Diagonal.{matrix-symmetric}
-use Rattle.laws.specs.FileLimits.{logarithm-limit, y-limit, file-limits}
+use Rattle.laws.specs.FileLimits.{observedLimit, logarithm-limit, y-limit, file-limits}
 use Rattle.laws.specs.PrecisionMatrix.{ratios-by-development}
 use Rattle.laws.specs.Tables.{tab-cong}
 use Rattle.row_starts.specs.Starts.{Starts}
@@ -88,7 +88,7 @@ module _ (f : Bytes) (h : AcceptedFile f) where
   file-logs : {logs : List ℤ} → Logarithms f logs → Logs logs J
   file-logs l = record {
     few = h .years .to;
-    small = λ c below. rw (l .filled .front c below) (logarithm-limit (amount f c) (h .amounts c below));
+    small = λ c below. rw (l .filled .front c below) (omega (arith, logarithm-limit (amount f c) (h .amounts c below)));
   }
 
   pub file-rows : {logs : List ℤ} {starts : List ℕ} → Logarithms f logs → Starts J starts → OfRows logs starts J
@@ -99,12 +99,12 @@ module _ (f : Bytes) (h : AcceptedFile f) where
 
   ratio-sum-to : (m : ℕ) → m ≤ J → natAbs (ratiosOfLast c m) ≤ 2 ^ 58
   ratio-sum-to m few =
-      rw (ratios-by-development c m few) (omega (arith, h .years .to, sum-size m term, total-bound m (2 ^ 53) term-to))
+      rw (ratios-by-development c m few) (omega (arith, h .years .to, sum-size m term, total-bound m (2 ^ 27 * observedLimit) term-to))
     where
       term : ℕ → ℤ
       term d = pos (c .g d) *ℤ c .y (J - d)
 
-      term-to : (d : ℕ) → d < m → natAbs (term d) ≤ 2 ^ 53
+      term-to : (d : ℕ) → d < m → natAbs (term d) ≤ 2 ^ 27 * observedLimit
       term-to d below = natAbs-*-≤ (pos (c .g d)) (c .y (J - d)) (g-to f h d (omega arith)) (y-limit f h (J - d) (omega arith))
 
   module _ {a : Arrays} (r : OfFile f J a) where

@@ -73,6 +73,12 @@ fields-same good other number placeOf i (suc n) same =
 abbrev pub Kept : Check → Check → Type 0
 Kept a b = isClear a ≡ true → a ≡ b
 
+-- whatever the one test calls good, the other does
+pub fields-kept : (good other : ℕ → Bool) (number : ℕ) (placeOf : ℕ → ℕ) (n : ℕ) → ((k : ℕ) → T (good k) → good k ≡ other k)
+    → Kept (fields good number placeOf 0 n) (fields other number placeOf 0 n)
+fields-kept good other number placeOf n same h =
+    fields-same good other number placeOf 0 n (λ k from to. same k (fields-clear good number placeOf 0 n h k from to))
+
 pub kept-first : {a b : Check} (c : Check) → Kept a b → Kept (a then c) (b then c)
 kept-first {a} c kept h = ap (λ x. x then c) (kept (then-clear {a = a} h .first))
 

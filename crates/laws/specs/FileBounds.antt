@@ -20,10 +20,6 @@ pub record Owned (c : Chain) : Type 0 where
   pub owned : (k : ℕ) → k < parts (c .last) → 1 ≤ own c k
   pub shares : (k : ℕ) → k < parts (c .last) → (d : ℕ) → d < rank c k → c .g d ≤ own c k
 
--- the size limit of logarithms, observations and prior means
-abbrev pub observedLimit : ℕ
-observedLimit = 2 ^ 26
-
 abbrev pub ownLimit : ℕ
 ownLimit = 34 * 2 ^ 27
 

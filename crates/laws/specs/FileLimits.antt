@@ -1,17 +1,19 @@
--- The sizes of an accepted file's figures: everything that the desk computes from it fits 64 bits.
+-- The sizes of an accepted file's figures: everything that the desk computes from it fits 64 bits. Each is drawn from the limits of the
+-- file's own fields, an amount's by its logarithm, and from nothing wider.
 use Prim.Native.Nat.{ℕ, zero, suc, _+_, _*_, _-_, _^_, _≤_, _<_}
 use mathlib.Core.Path.{ap}
 use mathlib.Core.Logic.{_≢_}
-use native.Mathlib.Nat.{le-trans, lt-of-le-of-lt, le-refl, mul-le-mul, mul-le-mul-right}
+use native.Mathlib.Nat.{le-trans, mul-le-mul, mul-le-mul-right}
 use native.Mathlib.Omega.{arith}
 use lib.IntN.{ℤ, pos, natAbs, _+ℤ_, _-ℤ_, _*ℤ_}
 use Rattle.integers.specs.Linear.{linear}
 use Rattle.integers.specs.Size.{natAbs-+, natAbs-*, natAbs-*-≤, natAbs--}
 use Rattle.integers.specs.Sum.{sum}
 use Rattle.integers.specs.SumRange.{only-same, only-apart}
-use Rattle.integers.specs.Total.{total-bound, total-term, sizes, sum-size}
-use Rattle.definitions.specs.Layout.{Bytes, lastYear, closeness, parts, psiIndex, cells, rowStart, paid, incurred}
-use Rattle.definitions.specs.Logarithm.{logarithm}
+use Rattle.integers.specs.Total.{total-bound, sum-size}
+use Rattle.definitions.specs.Layout.{Bytes, lastYear, closeness, parts, psiIndex, cells, rowStart, paid, incurred, priorMean, priorVariance}
+use Rattle.definitions.specs.Logarithm.{ticksPerDoubling, logarithm}
+use Rattle.definitions.specs.Weight.{weight}
 use Rattle.definitions.specs.Refusals.{amountLimit, partLimit}
 use Rattle.definitions.specs.Loss.{Vector}
 use Rattle.definitions.specs.Observations.{Chain, chainOf, paidStep, incurredStep, lastRatio}
@@ -20,14 +22,17 @@ use Rattle.laws.specs.Cells.{cell-below}
 use Rattle.laws.specs.Accepted.{AcceptedFile, Within}
 use Rattle.laws.specs.LogarithmBound.{logarithm-at-most}
 use Rattle.laws.specs.PrecisionMatrix.{firstsOf}
-use Rattle.laws.specs.Sizes.{Limits, row-limit, entry-limit, target-limit, residue-limit}
-use Rattle.laws.specs.FileBounds.{observedLimit, ownLimit, shareLimit, p-to, q-to, g-to, prior-to, by-own}
+use Rattle.laws.specs.Sizes.{Limits, entry-limit, target-limit, residue-limit}
+use Rattle.laws.specs.FileBounds.{ownLimit, shareLimit, p-to, q-to, g-to, prior-to, by-own}
 
 -- ---- logarithms of amounts
 
--- 2^40 is the limit of an amount, and 40 doublings are fewer than 2^26 ticks
+-- that of the largest amount, 2^44: the size limit of logarithms and observations
+abbrev pub observedLimit : ℕ
+observedLimit = 44 * ticksPerDoubling
+
 pub logarithm-limit : (a : ℕ) → Within 1 amountLimit a → logarithm a ≤ observedLimit
-logarithm-limit a range = omega (arith, logarithm-at-most a 40 (range .from) (range .to) (omega arith))
+logarithm-limit a range = logarithm-at-most a 44 (range .from) (range .to) (omega arith)
 
 -- the difference of two numbers of one limit is within the limit
 difference-limit : {a b m : ℕ} → a ≤ m → b ≤ m → natAbs (pos a -ℤ pos b) ≤ m
@@ -69,25 +74,31 @@ module _ (f : Bytes) (h : AcceptedFile f) where
 
   -- ---- a part's own observations
 
-  -- n observations of weight w, and a prior of weight s
-  column-limit : (w n s : ℕ) (o : ℕ → ℤ) (prior : ℤ) → natAbs prior ≤ observedLimit → ((i : ℕ) → i < n → natAbs (o i) ≤ observedLimit)
-      → natAbs (pos s *ℤ prior +ℤ pos w *ℤ sum n o) ≤ (s + n * w) * observedLimit
-  column-limit w n s o prior p x =
-      let sums : natAbs (sum n o) ≤ n * observedLimit = le-trans (sum-size n o) (total-bound n observedLimit x) in
-      le-trans (natAbs-+ (pos s *ℤ prior) (pos w *ℤ sum n o))
-      (omega (arith, natAbs-*-≤ (pos s) prior (le-refl s) p, natAbs-*-≤ (pos w) (sum n o) (le-refl w) sums))
+  -- a prior, and at most 16 observations, each of them of the largest weight
+  abbrev firstsLimit : ℕ
+  firstsLimit = 2 ^ 28 * partLimit + 2 ^ 28 * (16 * observedLimit)
 
-  pub file-limits : Limits c ownLimit shareLimit observedLimit
+  -- the prior of part k, and n observations of weight w
+  column-limit : (k : ℕ) → k < parts J → {w n : ℕ} (o : ℕ → ℤ) → w ≤ 2 ^ 28 → n ≤ 16 → ((i : ℕ) → i < n → natAbs (o i) ≤ observedLimit)
+      → natAbs (pos (weight (priorVariance f k)) *ℤ priorMean f k +ℤ pos w *ℤ sum n o) ≤ firstsLimit
+  column-limit k below {w} {n} o light few x =
+      let prior = natAbs-*-≤ (pos (weight (priorVariance f k))) (priorMean f k) (prior-to f h k below) (h .prior-means k below) in
+      let sums : natAbs (sum n o) ≤ 16 * observedLimit =
+      le-trans (sum-size n o) (le-trans (total-bound n observedLimit x) (mul-le-mul-right observedLimit few)) in
+      le-trans (natAbs-+ (pos (weight (priorVariance f k)) *ℤ priorMean f k) (pos w *ℤ sum n o))
+      (omega (arith, prior, natAbs-*-≤ (pos w) (sum n o) light sums))
+
+  pub file-limits : Limits c ownLimit shareLimit firstsLimit observedLimit
   file-limits = record {
     own-to = by-own f h (λ D a. D ≤ ownLimit)
         (λ j below. omega (arith, h .years .to, prior-to f h j (omega arith), mul-le-mul (count-p j) (p-to f h j below)))
         (λ j below. omega (arith, h .years .to, prior-to f h (psiIndex J j) (omega arith), mul-le-mul (count-q j) (q-to f h j below)));
     shares-to = g-to f h;
-    firsts-to = by-own f h (λ D a. natAbs (firstsOf c a) ≤ D * observedLimit)
-        (λ j below. column-limit (c .p j) (J - j + 1) (c .s j) (λ i. c .x i j) (c .priorΦ j)
-        (h .prior-means j (omega arith)) (λ i i-below. x-limit i j (omega arith)))
-        (λ j below. column-limit (c .q j) (J - j) (c .t j) (λ i. c .z i j) (c .priorΨ j)
-        (h .prior-means (psiIndex J j) (omega arith)) (λ i i-below. z-limit i j (omega arith)));
+    firsts-to = by-own f h (λ D a. natAbs (firstsOf c a) ≤ firstsLimit)
+        (λ j below. column-limit j (omega arith) (λ i. c .x i j) (p-to f h j below) (count-p j)
+        (λ i i-below. x-limit i j (omega arith)))
+        (λ j below. column-limit (psiIndex J j) (omega arith) (λ i. c .z i j) (q-to f h j below) (omega (arith, count-q j))
+        (λ i i-below. z-limit i j (omega arith)));
     ratios-to = λ d below. y-limit (J - d) (omega arith);
   }
     where
@@ -108,10 +119,6 @@ module _ (f : Bytes) (h : AcceptedFile f) where
       next : J ≤ 15 → J + 1 ≤ 16
       next h = omega arith
 
-  -- the sizes of a row of the matrix
-  pub row-fits : (k : ℕ) → k < parts J → sizes (parts J) (matrix c k) ≤ 274 * 2 ^ 27
-  row-fits k below = omega (arith, row-limit c file-limits k below, mul-le-mul-right shareLimit years-limit)
-
   -- the entries off the diagonal, and those on it
   pub entry-fits : (k l : ℕ) → k < parts J → l < parts J → k ≢ l → natAbs (matrix c k l) ≤ 15 * 2 ^ 27
   entry-fits k l k-below l-below apart =
@@ -124,33 +131,31 @@ module _ (f : Bytes) (h : AcceptedFile f) where
       let own-weight = file-limits .own-to k below in
       omega (arith, entry-limit c file-limits k k below below, mul-le-mul-right shareLimit (h .years .to))
 
-  pub right-hand-fits : (k : ℕ) → k < parts J → natAbs (rightHand c k) ≤ 49 * 2 ^ 53
+  pub right-hand-fits : (k : ℕ) → k < parts J → natAbs (rightHand c k) ≤ 2196 * 2 ^ 47
   right-hand-fits k below = omega (arith, target-limit c file-limits k below, mul-le-mul-right (shareLimit * observedLimit) (h .years .to))
 
-  -- twice this and a diagonal entry are below 2^63
   pub residue-fits : (μ : Vector) → ((l : ℕ) → l < parts J → natAbs (μ l) ≤ partLimit) → (k : ℕ) → k < parts J
-      → natAbs (residueTimes c 1 μ k) ≤ 323 * 2 ^ 53
+      → natAbs (residueTimes c 1 μ k) ≤ 19732 * 2 ^ 47
   residue-fits μ small k below =
       let row = mul-le-mul-right (shareLimit * partLimit) years-limit in
       let target = mul-le-mul-right (shareLimit * observedLimit) (h .years .to) in
       omega (arith, residue-limit c file-limits partLimit μ small k below)
 
-  -- what a step of part k divides
+  -- what a step of part k divides: below 2^63
   pub numerator-fits : (μ : Vector) → ((l : ℕ) → l < parts J → natAbs (μ l) ≤ partLimit) → (k : ℕ) → k < parts J
-      → natAbs (matrix c k k -ℤ pos 2 *ℤ residueTimes c 1 μ k) < 2 ^ 63
+      → natAbs (matrix c k k -ℤ pos 2 *ℤ residueTimes c 1 μ k) ≤ 39465 * 2 ^ 47
   numerator-fits μ small k below =
       let A : ℤ = matrix c k k in
       let r : ℤ = residueTimes c 1 μ k in
-      let in-row = total-term (parts J) k (λ l. natAbs (matrix c k l)) below in
-      lt-of-le-of-lt (natAbs-- A (pos 2 *ℤ r)) (omega (arith, natAbs-* (pos 2) r, residue-fits μ small k below, row-fits k below))
+      le-trans (natAbs-- A (pos 2 *ℤ r)) (omega (arith, natAbs-* (pos 2) r, residue-fits μ small k below, diagonal-fits k below))
 
   -- the observations of a column, added up
-  pub x-sum-fits : (j : ℕ) → j ≤ J → natAbs (sum (J - j + 1) (λ i. paidStep f i j)) ≤ 2 ^ 30
+  pub x-sum-fits : (j : ℕ) → j ≤ J → natAbs (sum (J - j + 1) (λ i. paidStep f i j)) ≤ 16 * observedLimit
   x-sum-fits j below =
       le-trans (sum-size (J - j + 1) (λ i. paidStep f i j))
       (omega (arith, h .years .to, total-bound (J - j + 1) observedLimit (λ i i-below. x-limit i j (omega arith))))
 
-  pub z-sum-fits : (j : ℕ) → j < J → natAbs (sum (J - j) (λ i. incurredStep f i j)) ≤ 2 ^ 30
+  pub z-sum-fits : (j : ℕ) → j < J → natAbs (sum (J - j) (λ i. incurredStep f i j)) ≤ 15 * observedLimit
   z-sum-fits j below =
       le-trans (sum-size (J - j) (λ i. incurredStep f i j))
       (omega (arith, h .years .to, total-bound (J - j) observedLimit (λ i i-below. z-limit i j (omega arith))))

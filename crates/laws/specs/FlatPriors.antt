@@ -1,30 +1,29 @@
 -- Document 02's files without a prior. Number 7 stands here twice, side by side: by the test that it has, and by one that asks a prior of
--- every part. What the second accepts is accepted, with the figures that it had; the two part at a prior variance of 0 and nowhere
--- else. And a part without a prior rests on its own observations, of which it has at least one. `PinnedPriors` draws all of it once more.
+-- every part. What the second lets through is let through alike; the two part at a prior variance of 0 and nowhere else. And a part
+-- without a prior rests on its own observations, of which it has at least one. `PinnedPriors` draws all of it once more.
 use Prim.Native.Nat.{ℕ, _+_, _*_, _-_, _^_, _≤_, _<_}
-use mathlib.Core.Path.{_≡_, refl, sym, ap, _∙_}
+use mathlib.Core.Path.{_≡_, refl, ap, _∙_}
 use mathlib.Core.Logic.{_≢_}
 use mathlib.Core.Bool.{Bool, true}
 use native.Mathlib.Omega.{arith}
 use borrow.Author.Tests.{ne-eqb}
-use lib.Dec.{T, leb}
+use lib.Dec.{T}
 use lib.IntN.{pos, _+ℤ_, _-ℤ_, _*ℤ_, zero-*ℤ, +ℤ-idl}
 use Rattle.integers.specs.Sum.{sum}
 use Rattle.definitions.specs.Words.{within}
 use Rattle.definitions.specs.Layout.{Bytes, lastYear, parts, psiIndex, priorVariance, priorVarianceAt}
 use Rattle.definitions.specs.Weight.{weight}
-use Rattle.definitions.specs.Refusals.{Check, unless, _then_, fields, goodPriorVariance, fileCheck, rowCheck, isClear, accepted}
+use Rattle.definitions.specs.Refusals.{Check, _then_, fields, goodPriorVariance, fileCheck, accepted}
 use Rattle.definitions.specs.Refusals.{check1, check2, check3, check4, check5, check6, check7, check8, check9, check10}
 use Rattle.definitions.specs.Observations.{Chain, chainOf, σ², τ², paidStep, incurredStep}
-use Rattle.definitions.specs.Matrix.{Figures, ownOf, own, targetOf, rightHand, ratiosOfLast}
-use Rattle.definitions.specs.Machine.{empty, openUnless, openCall}
-use Rattle.laws.specs.ClearChecks.{Kept, kept-first, kept-second, fields-clear, fields-same}
+use Rattle.definitions.specs.Matrix.{ownOf, own, targetOf, rightHand, ratiosOfLast}
+use Rattle.laws.specs.ClearChecks.{Kept, kept-first, kept-second, fields-kept, fields-same}
 use Rattle.laws.specs.Accepted.{within-yes, accepted-file}
 use Rattle.laws.specs.FileBounds.{p-from, q-from, column-p, column-q}
 use Rattle.laws.specs.Ranks.{partOf-phi, partOf-psi}
 use Rattle.laws.specs.WeightLaws.{weight-of-none}
 
--- ---- number 7 by some test of a prior variance; the other numbers, and the checks of row, as they are
+-- ---- number 7 by some test of a prior variance; the other numbers as they are
 
 module _ (good : ℕ → Bool) where
   abbrev pub check7By : Bytes → Check
@@ -35,10 +34,7 @@ module _ (good : ℕ → Bool) where
       check1 f then check2 f then check3 f then check4 f then check5 f then check6 f then check7By f
       then check8 f then check9 f then check10 f
 
-  abbrev pub rowCheckBy : Bytes → ℕ → ℕ → Check
-  rowCheckBy f channel year = fileCheckBy f then unless (leb channel 1) 14 0 then unless (leb year (lastYear f)) 15 0
-
--- by the test that it has they are the definitions' checks
+-- by the test that it has it is the definitions' check
 pub fileCheck-is : (f : Bytes) → fileCheckBy goodPriorVariance f ≡ fileCheck f
 unfolding fileCheck check7
 fileCheck-is f = refl
@@ -61,33 +57,13 @@ module _ (f : Bytes) where
 
   check7-kept : Kept (check7By isPrior f) (check7 f)
   unfolding check7
-  check7-kept h =
-      fields-same _ _ 7 (priorVarianceAt (lastYear f)) 0 n
-      (λ k from to. same-test (priorVariance f k) (not-0 (priorVariance f k) (fields-clear _ 7 _ 0 n h k from to)))
+  check7-kept = fields-kept _ _ 7 (priorVarianceAt (lastYear f)) n (λ k t. same-test (priorVariance f k) (not-0 (priorVariance f k) t))
 
-  file-kept : Kept (fileCheckBy isPrior f) (fileCheck f)
+  pub priors-kept : Kept (fileCheckBy isPrior f) (fileCheck f)
   unfolding fileCheck
-  file-kept =
+  priors-kept =
       kept-second (check1 f) (kept-second (check2 f) (kept-second (check3 f) (kept-second (check4 f) (kept-second (check5 f)
       (kept-second (check6 f) (kept-first _ check7-kept))))))
-
-  module _ (was : isClear (fileCheckBy isPrior f) ≡ true) where
-    same : fileCheckBy isPrior f ≡ fileCheck f
-    same = file-kept was
-
-    pub still-accepted : accepted f ≡ true
-    still-accepted = ap isClear (sym same) ∙ was
-
-    -- open, of an empty session: the same figures are held, or whatever else is kept of the file, the same mean and the same total
-    pub opened-alike : (X : Type 0) (keep : Bytes → X) (figures : X → Figures)
-        → openUnless X keep figures (fileCheckBy isPrior f) f ≡ openCall X keep figures empty f
-    unfolding openCall
-    opened-alike X keep figures = ap (λ check. openUnless X keep figures check f) same
-
-    -- row, shown or told: with the same answer for every channel and year
-    pub row-alike : (channel year : ℕ) → rowCheckBy isPrior f channel year ≡ rowCheck f channel year
-    unfolding rowCheck
-    row-alike channel year = ap (λ check. check then unless (leb channel 1) 14 0 then unless (leb year (lastYear f)) 15 0) same
 
   -- the two part at a variance of 0 alone: where there is none, every file is let through or refused alike, with number and place
   pub same-but-for-0 : ((k : ℕ) → k < n → priorVariance f k ≢ 0) → fileCheckBy isPrior f ≡ fileCheck f

@@ -9,6 +9,7 @@
 --   Cells             the start of each row, by document 02's formula and table; rows and cells are inside their block
 --   ClearChecks       what a clear check says of its parts; two checks side by side
 --   Accepted          what an accepted file holds, field by field
+--   AcceptedBefore    what another check lets through as the definitions' does is accepted, and open and row answer alike
 --   Ranks             parts by index; the matrix by ranks and signs
 --   Quadratic         a loss of quadratics and combinations: matrix, right-hand side, residue, expansion around a mean
 --   PrecisionMatrix   the specification's matrix, right-hand side and residue are those of such a loss
@@ -26,7 +27,9 @@
 --   FileBounds        the weights of an accepted file, and that each g is at most the weights whose variances are in its sum
 --   FlatPriors        number 7 with priors of no weight and without, side by side; what a part without a prior rests on
 --   PinnedPriors      both once more, in plain numbers
+--   LargerAmounts     number 9 with amounts to 2^44 and to 2^40, side by side
 --   FileLimits        the sizes of an accepted file's figures, as numbers
+--   PinnedAmounts     both once more, in plain numbers
 --   StepLaws          one step of a sweep: one part changes, stays inside, residues follow
 --   SweepLaws         no step and no sweep raises the loss; a swept mean stays inside the limits
 --   MachineLaws       the machine runs on a file's figures; every state that calls reach is empty, or an accepted file with a mean
@@ -47,6 +50,7 @@ pub mod WeightLaws
 pub mod Cells
 pub mod ClearChecks
 pub mod Accepted
+pub mod AcceptedBefore
 pub mod Ranks
 pub mod Quadratic
 pub mod PrecisionMatrix
@@ -64,7 +68,9 @@ pub mod Sizes
 pub mod FileBounds
 pub mod FlatPriors
 pub mod PinnedPriors
+pub mod LargerAmounts
 pub mod FileLimits
+pub mod PinnedAmounts
 pub mod StepLaws
 pub mod SweepLaws
 pub mod MachineLaws

@@ -30,6 +30,6 @@ one-tick-at-most = rounded-by-the-last-bit
 
 -- ---- of every amount that a file may have
 
--- that of 2^40 itself: joint table, `log-of-2^40`
-pub largest-logarithm : (a : ℕ) → 1 ≤ a → a ≤ 2 ^ 40 → logarithm a ≤ 41943040
-largest-logarithm a one small = logarithm-at-most a 40 one small (lit< tt)
+-- that of 2^44 itself: joint table, `log-of-2^44`
+pub largest-logarithm : (a : ℕ) → 1 ≤ a → a ≤ 2 ^ 44 → logarithm a ≤ 46137344
+largest-logarithm a one small = logarithm-at-most a 44 one small (lit< tt)

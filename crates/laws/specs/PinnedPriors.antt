@@ -18,7 +18,8 @@ use Rattle.definitions.specs.Refusals.{Check, unless, fields, _then_, goodPrior
 use Rattle.definitions.specs.Refusals.{check1, check2, check3, check4, check5, check6, check8, check9, check10}
 use Rattle.definitions.specs.Machine.{empty, openUnless, openCall}
 use Rattle.laws.specs.Accepted.{Within, prior-yes}
-use Rattle.laws.specs.FlatPriors.{still-accepted, opened-alike, row-alike, same-but-for-0}
+use Rattle.laws.specs.AcceptedBefore.{still-accepted, opened-alike, row-alike}
+use Rattle.laws.specs.FlatPriors.{priors-kept, same-but-for-0}
 use Rattle.laws.specs.FlatPriors.{own-of-phi, own-of-psi, right-hand-of-phi, right-hand-of-psi, observed-phi, observed-psi}
 
 -- the prior variances that number 7 takes
@@ -49,15 +50,15 @@ module _ (f : Bytes) where
 
   module _ (was : isClear with-priors ≡ true) where
     pub accepted-still : accepted f ≡ true
-    accepted-still = still-accepted f was
+    accepted-still = still-accepted f with-priors (priors-kept f) was
 
     pub opened-still : (X : Type 0) (keep : Bytes → X) (figures : X → Figures)
         → openUnless X keep figures with-priors f ≡ openCall X keep figures empty f
-    opened-still = opened-alike f was
+    opened-still = opened-alike f with-priors (priors-kept f) was
 
     pub row-still : (channel year : ℕ)
         → with-priors then unless (leb channel 1) 14 0 then unless (leb year J) 15 0 ≡ rowCheck f channel year
-    row-still = row-alike f was
+    row-still = row-alike f with-priors (priors-kept f) was
 
   pub same-with-priors : ((k : ℕ) → k < 2 * J + 1 → priorVariance f k ≢ 0) → with-priors ≡ fileCheck f
   same-with-priors = same-but-for-0 f

@@ -1,5 +1,5 @@
--- The sizes that code in 64 bits needs, over limits of the weights and observations that are left open: own weights at most W, the g
--- at most G, observations at most X in size, a mean's parts at most M.
+-- The sizes that code in 64 bits needs, over limits that are left open: own weights at most W, the g at most G, what a part's own
+-- observations and prior come to at most B in size, the last ratios at most X, a mean's parts at most M.
 use Prim.Native.Nat.{ℕ, zero, suc, _+_, _*_, _-_, _≤_, _<_, min}
 use mathlib.Core.Path.{_≡_, refl, sym, ap, ap₂, _∙_}
 use native.Mathlib.Nat.{le-refl, le-trans, le-of-eq, mul-le-mul-right}
@@ -99,13 +99,13 @@ module _ (c : Chain) where
 
   -- ---- right-hand side and residues
 
-  pub record Limits (W G X : ℕ) : Type 0 where
+  pub record Limits (W G B X : ℕ) : Type 0 where
     pub own-to : (k : ℕ) → k < n → own c k ≤ W
     pub shares-to : (d : ℕ) → d < J → c .g d ≤ G
-    pub firsts-to : (k : ℕ) → k < n → natAbs (firstsOf c (kind k)) ≤ own c k * X
+    pub firsts-to : (k : ℕ) → k < n → natAbs (firstsOf c (kind k)) ≤ B
     pub ratios-to : (d : ℕ) → d < J → natAbs (c .y (J - d)) ≤ X
 
-  module _ {W G X : ℕ} (h : Limits W G X) where
+  module _ {W G B X : ℕ} (h : Limits W G B X) where
     shares-of : (k : ℕ) → k < n → (d : ℕ) → d < rank k → c .g d ≤ G
     shares-of k below d d-below = h .shares-to d (omega (arith, rank-below J k below))
 
@@ -117,14 +117,14 @@ module _ (c : Chain) where
     entry-limit k l k-below l-below =
         omega (arith, entry-size k l G k-below l-below (shares-of k k-below), mul-le-mul-right G (rank-below J l l-below))
 
-    pub target-limit : (k : ℕ) → k < n → natAbs (rightHand c k) ≤ (W + J * G) * X
+    pub target-limit : (k : ℕ) → k < n → natAbs (rightHand c k) ≤ B + J * (G * X)
     unfolding rightHand
     target-limit k below =
         let signed = one-sign (kind k) (ratiosOfLast c r) in
         let firsts = h .firsts-to k below in
         rw (target-by-rank c (kind k))
         (le-trans (natAbs-+ (firstsOf c (kind k)) (signOf (kind k) *ℤ ratiosOfLast c r))
-        (omega (arith, ratios, mul-le-mul-right X (h .own-to k below), mul-le-mul-right (G * X) in-years)))
+        (omega (arith, ratios, mul-le-mul-right (G * X) in-years)))
       where
         r : ℕ
         r = rank k
@@ -147,7 +147,7 @@ module _ (c : Chain) where
 
     -- of a whole mean whose parts are at most M in size
     pub residue-limit : (M : ℕ) (μ : Vector) → ((l : ℕ) → l < n → natAbs (μ l) ≤ M) → (k : ℕ) → k < n
-        → natAbs (residueTimes c 1 μ k) ≤ (W + J * (J + 1) * G) * M + (W + J * G) * X
+        → natAbs (residueTimes c 1 μ k) ≤ (W + J * (J + 1) * G) * M + (B + J * (G * X))
     unfolding residueTimes
     residue-limit M μ small k below =
         let products : sizes n (λ l. matrix c k l *ℤ μ l) ≤ sizes n (matrix c k) * M =

@@ -28,8 +28,8 @@ const MOST_VARIANCE: u64 = 1099511627776;
 
 const MOST_PRIOR_VARIANCE: u64 = 70368744177664;
 
-// 2^40.
-const MOST_AMOUNT: u64 = 1099511627776;
+// 2^44.
+const MOST_AMOUNT: u64 = 17592186044416;
 
 // Length.
 fn check_1(s: &[u8]) -> Check

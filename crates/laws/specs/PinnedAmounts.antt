@@ -1,0 +1,101 @@
+-- Amounts to 2^44 once more, in plain numbers: which are taken, that files with amounts to 2^40 give what they gave, and how large whatever
+-- is made of an accepted file's amounts may become. Nothing of `LargerAmounts` and `FileLimits` is named in what is said, so that none of
+-- their laws can be weakened, or hold of larger amounts by chance, and still give these.
+use Prim.Native.Nat.{ℕ, _+_, _*_, _-_, _^_, _≤_, _<_}
+use mathlib.Core.Path.{_≡_, refl}
+use mathlib.Core.Logic.{_⊎_, _↔_}
+use mathlib.Core.Bool.{true}
+use borrow.Author.Tests.{le-leb}
+use lib.Dec.{leb}
+use lib.IntN.{pos, natAbs, _-ℤ_, _*ℤ_}
+use Rattle.integers.specs.Sum.{sum}
+use Rattle.definitions.specs.Words.{within}
+use Rattle.definitions.specs.Layout.{Bytes, lastYear, cells, amount, amountAt}
+use Rattle.definitions.specs.Logarithm.{logarithm}
+use Rattle.definitions.specs.Observations.{Chain, chainOf, paidStep, incurredStep, lastRatio}
+use Rattle.definitions.specs.Loss.{Vector}
+use Rattle.definitions.specs.Matrix.{Figures, matrix, rightHand, residueTimes}
+use Rattle.definitions.specs.Refusals.{Check, unless, fields, _then_, goodAmount, fileCheck, rowCheck, isClear, accepted}
+use Rattle.definitions.specs.Refusals.{check1, check2, check3, check4, check5, check6, check7, check8, check10}
+use Rattle.definitions.specs.Machine.{empty, openUnless, openCall}
+use Rattle.laws.specs.Accepted.{AcceptedFile, within-yes, accepted-file}
+use Rattle.laws.specs.AcceptedBefore.{still-accepted, opened-alike, row-alike}
+use Rattle.laws.specs.LargerAmounts.{amounts-kept, same-but-between}
+use Rattle.laws.specs.FileLimits.{logarithm-limit, x-limit, z-limit, y-limit, x-sum-fits, z-sum-fits}
+use Rattle.laws.specs.FileLimits.{right-hand-fits, residue-fits, numerator-fits}
+
+-- the amounts that number 9 takes
+pub amount-taken : (a : ℕ) → (goodAmount a ≡ true) ↔ ((1 ≤ a) × (a ≤ 17592186044416))
+amount-taken a = (
+  λ e. let w = within-yes 1 (2 ^ 44) a (rw e tt) in (w .from, w .to),
+  λ h. rw (le-leb 1 a (h .0), le-leb a (2 ^ 44) (h .1)) refl,
+)
+
+module _ (f : Bytes) where
+  abbrev J : ℕ
+  J = lastYear f
+
+  abbrev c : Chain
+  c = chainOf f
+
+  -- ---- 1 to 10, where 9 takes no amount above 2^40
+
+  abbrev pub to-2^40 : Check
+  to-2^40 =
+      check1 f then check2 f then check3 f then check4 f then check5 f then check6 f then check7 f then check8 f
+      then fields (λ k. within 1 1099511627776 (amount f k)) 9 (amountAt J) 0 (2 * cells J)
+      then check10 f
+
+  module _ (was : isClear to-2^40 ≡ true) where
+    pub as-before : accepted f ≡ true
+    as-before = still-accepted f to-2^40 (amounts-kept f) was
+
+    pub opened-as-before : (X : Type 0) (keep : Bytes → X) (figures : X → Figures)
+        → openUnless X keep figures to-2^40 f ≡ openCall X keep figures empty f
+    opened-as-before = opened-alike f to-2^40 (amounts-kept f) was
+
+    pub row-as-before : (channel year : ℕ)
+        → to-2^40 then unless (leb channel 1) 14 0 then unless (leb year J) 15 0 ≡ rowCheck f channel year
+    row-as-before = row-alike f to-2^40 (amounts-kept f) was
+
+  -- the two part at an amount above 2^40 and up to 2^44 alone
+  pub same-to-2^40 : ((k : ℕ) → k < 2 * cells J → (amount f k ≤ 1099511627776) ⊎ (17592186044416 < amount f k)) → to-2^40 ≡ fileCheck f
+  same-to-2^40 = same-but-between f
+
+  -- ---- sizes, of an accepted file
+
+  module _ (yes-file : accepted f ≡ true) where
+    known : AcceptedFile f
+    known = accepted-file f yes-file
+
+    pub logarithm-to : (k : ℕ) → k < 2 * cells J → logarithm (amount f k) ≤ 46137344
+    logarithm-to k below = logarithm-limit (amount f k) (known .amounts k below)
+
+    pub paid-step-to : (i j : ℕ) → i + j ≤ J → natAbs (paidStep f i j) ≤ 46137344
+    paid-step-to = x-limit f known
+
+    pub incurred-step-to : (i j : ℕ) → i + j < J → natAbs (incurredStep f i j) ≤ 46137344
+    incurred-step-to = z-limit f known
+
+    pub last-ratio-to : (i : ℕ) → i ≤ J → natAbs (lastRatio f i) ≤ 46137344
+    last-ratio-to = y-limit f known
+
+    -- 16 observations at most, and 15
+    pub paid-sum-to : (j : ℕ) → j ≤ J → natAbs (sum (J - j + 1) (λ i. paidStep f i j)) ≤ 738197504
+    paid-sum-to = x-sum-fits f known
+
+    pub incurred-sum-to : (j : ℕ) → j < J → natAbs (sum (J - j) (λ i. incurredStep f i j)) ≤ 692060160
+    incurred-sum-to = z-sum-fits f known
+
+    pub right-hand-to : (k : ℕ) → k < 2 * J + 1 → natAbs (rightHand c k) ≤ 2196 * 2 ^ 47
+    right-hand-to = right-hand-fits f known
+
+    -- of a mean inside the limits
+    pub residue-to : (μ : Vector) → ((l : ℕ) → l < 2 * J + 1 → natAbs (μ l) ≤ 67108864)
+        → (k : ℕ) → k < 2 * J + 1 → natAbs (residueTimes c 1 μ k) ≤ 19732 * 2 ^ 47
+    residue-to = residue-fits f known
+
+    -- what a step divides, which is below 2^63
+    pub divided-to : (μ : Vector) → ((l : ℕ) → l < 2 * J + 1 → natAbs (μ l) ≤ 67108864)
+        → (k : ℕ) → k < 2 * J + 1 → natAbs (matrix c k k -ℤ pos 2 *ℤ residueTimes c 1 μ k) ≤ 39465 * 2 ^ 47
+    divided-to = numerator-fits f known
