@@ -22,21 +22,29 @@ def amounts_of(file: File) -> Iterator[int]:
     return (amount for triangle in (file.paid, file.incurred) for year in triangle for amount in year)
 
 
+def observations_of(file: File) -> list[int]:
+    seen = chain.observations_of(file)
+    return [*(step for table in (seen.x, seen.z) for year in table for step in year), *seen.y[1:]]
+
+
+def sums_of(file: File) -> list[int]:
+    """Of each column of paid and of incurred steps."""
+    seen = chain.observations_of(file)
+    return [sum(year[j] for year in table if j < len(year)) for table in (seen.x, seen.z) for j in range(file.last + 1)]
+
+
 def sizes_of(file: File) -> dict[str, int]:
-    """The largest of each kind of number that the desk makes of a file, for means with every part at a limit."""
-    seen, figures = chain.observations_of(file), chain.figures_of(file)
-    x, z, y = ([x for year in seen.x for x in year], [z for year in seen.z for z in year], list(seen.y[1:]))
-    sums = [sum(year[j] for year in table if j < len(year)) for table in (seen.x, seen.z) for j in range(file.last + 1)]
-    apart = [[LARGEST_MEAN if entry < 0 else -LARGEST_MEAN for entry in row] for row in figures.matrix]
-    residues = [chain.residues_of(figures, mean)[k] for mean in apart for k in range(len(apart))]
-    diagonal = [figures.matrix[k][k] for _ in apart for k in range(len(apart))]
+    """The largest of each kind of number that the desk makes of a file; for each part a mean at the limits makes its residue large."""
+    figures = chain.figures_of(file)
+    means = [[LARGEST_MEAN if entry < 0 else -LARGEST_MEAN for entry in row] for row in figures.matrix]
+    residues = [chain.residues_of(figures, mean) for mean in means]
     return {
         "logarithm": max(map(logarithm, amounts_of(file))),
-        "observation": max(map(abs, x + z + y)),
-        "sum": max(map(abs, sums)),
+        "observation": max(map(abs, observations_of(file))),
+        "sum": max(map(abs, sums_of(file))),
         "right-hand side": max(map(abs, figures.right_hand_side)),
-        "residue": max(map(abs, residues)),
-        "divided": max(abs(entry - 2 * residue) for entry, residue in zip(diagonal, residues)),
+        "residue": max(abs(residue) for each in residues for residue in each),
+        "divided": max(abs(figures.matrix[k][k] - 2 * residue) for each in residues for k, residue in enumerate(each)),
     }
 
 
@@ -61,8 +69,7 @@ class Files(unittest.TestCase):
             self.assertEqual(set(amounts_of(self.accepted[f"amounts-largest-{last:02}"])), {LARGEST})
             beside = self.accepted[f"amounts-beside-1-{last:02}"]
             self.assertEqual(set(amounts_of(beside)), {1, LARGEST})
-            seen = chain.observations_of(beside)
-            every = [*(x for year in seen.x for x in year), *(z for year in seen.z for z in year), *seen.y[1:]]
+            every = observations_of(beside)
             self.assertEqual((len(every), set(map(abs, every))), ((last + 1) * (last + 1) + last, {LOGARITHM}))
 
     def test_portfolios_in_yen(self) -> None:
