@@ -1,6 +1,6 @@
 """Files to try the desk on: File F of the specification, files at the limits, files hard to settle, drawn files."""
 
-from collections.abc import Callable, Container
+from collections.abc import Callable, Container, Iterator
 from dataclasses import replace
 from random import Random
 
@@ -41,6 +41,10 @@ def logarithm_shown(amount: int, other: int) -> File:
     )
 
 
+def amounts_of(file: File) -> Iterator[int]:
+    return (amount for triangle in (file.paid, file.incurred) for year in triangle for amount in year)
+
+
 def filled_triangle(last: int, amount: Callable[[], int]) -> Triangle:
     return tuple(tuple(amount() for _ in range(last - year + 1)) for year in range(last + 1))
 
@@ -76,11 +80,9 @@ def file_at_limits(last: int, end: int) -> File:
 
 
 def largest_figures(last: int) -> File:
-    """Every weight and every prior mean at its highest, and every amount: phi 0 has the largest right-hand side that there is."""
+    """Every weight, every prior mean and every amount at its highest: no right-hand side is larger than phi 0's."""
     high = file_at_limits(last, 1)
-    return replace(
-        file_at_limits(last, 0), closeness=256, prior_means=high.prior_means, paid=high.paid, incurred=high.incurred,
-    )
+    return replace(file_at_limits(last, 0), closeness=256, prior_means=high.prior_means, paid=high.paid, incurred=high.incurred)
 
 
 def largest_steps(last: int) -> File:
@@ -189,8 +191,7 @@ def drawn_flat_file(rng: Random, last: int | None = None) -> File:
 def drawn_yen_file(rng: Random, last: int | None = None) -> File:
     """A mild file in a currency of small units: its largest amount is from about 2^41 to 2^44."""
     file = with_same_end(mild_file(rng, rng.randint(1, 15) if last is None else last))
-    most = max(amount for triangle in (file.paid, file.incurred) for year in triangle for amount in year)
-    units = rng.randint(1 << 41, AMOUNT_LIMITS[1]) // most
+    units = rng.randint(1 << 41, AMOUNT_LIMITS[1]) // max(amounts_of(file))
 
     def in_units(triangle: Triangle) -> Triangle:
         return tuple(tuple(units * amount for amount in year) for year in triangle)

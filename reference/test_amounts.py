@@ -1,7 +1,6 @@
 """Files with the largest amounts: which they are, what is listed for them, and that nothing made of them is larger than is promised."""
 
 import unittest
-from collections.abc import Iterator
 from random import Random
 
 import chain
@@ -9,6 +8,7 @@ import samples
 import vectors_amounts
 from layout import INCURRED, PAID, File, Refusal, amount_place, build_file, read_file, unsigned
 from listing import listing
+from samples import amounts_of
 from scales import TICKS_PER_DOUBLING as T
 from scales import logarithm
 
@@ -16,10 +16,6 @@ LARGEST = 1 << 44
 LOGARITHM = 46_137_344
 LARGEST_MEAN = 1 << 26
 ENDS = (1, 15)
-
-
-def amounts_of(file: File) -> Iterator[int]:
-    return (amount for triangle in (file.paid, file.incurred) for year in triangle for amount in year)
 
 
 def observations_of(file: File) -> list[int]:
