@@ -6,6 +6,7 @@ from random import Random
 import chain
 import samples
 import vectors_amounts
+import vectors_calls
 from layout import INCURRED, PAID, File, Refusal, amount_place, build_file, read_file, unsigned
 from listing import listing
 from samples import amounts_of
@@ -93,13 +94,19 @@ class Files(unittest.TestCase):
             self.assertEqual(listing(lent), f"refused 9 at {refusal.place}\n")
 
     def test_every_cell_is_looked_at(self) -> None:
-        """Two years more than the shortest have: each cell of both blocks, at both limits and one past them."""
+        """Four years: each cell of both blocks, one past either limit and at the most that 8 bytes hold."""
         file = build_file(samples.largest_figures(3))
         for channel in (PAID, INCURRED):
             for place in (amount_place(3, channel, i, j) for i in range(4) for j in range(4 - i)):
                 for amount in (0, LARGEST + 1, (1 << 64) - 1):
                     lent = file[:place] + amount.to_bytes(8, "big") + file[place + 8:]
                     self.assertEqual(read_file(lent), Refusal(9, place))
+
+    def test_every_cell_of_every_file_is_in_the_script(self) -> None:
+        """The one that is too long to be kept: five amounts for each cell of each J, of which one leaves the file as it is."""
+        calls = [*vectors_calls.every_cell()]
+        cells, rows = (sum(counted(last) for last in range(1, 16)) for counted in (lambda j: (j + 1) * (j + 2), lambda j: 2 * (j + 1)))
+        self.assertEqual((len(calls), len(set(calls))), (5 * cells, 4 * cells + rows))
 
     def test_all_of_them_settle(self) -> None:
         for name, file in self.accepted.items():

@@ -54,9 +54,11 @@ def make(seed: int) -> Vectors:
     }
 
 
-def make_lengths() -> Vectors:
-    """Too long to be kept: a file of every length."""
-    return _scripts("calls", {"lengths": b"".join(vectors_calls.every_length())})
+def make_long() -> Vectors:
+    """Too long to be kept: a file of every length, and each cell of every J at its limits and past them."""
+    return _scripts("calls", {
+        "lengths": b"".join(vectors_calls.every_length()), "cells": b"".join(vectors_calls.every_cell()),
+    })
 
 
 def make_random(seed: int, count: int) -> Vectors:

@@ -17,7 +17,7 @@ from call_bytes import (
 from damage import (
     SPOIL_FILE, SPOIL_RECORD, drawn_damage, drawn_file_damage, fields_of, pairs_of_spoils, put,
 )
-from layout import LARGEST_YEAR, File, build_file, build_record, record_length
+from layout import AMOUNT_LIMITS, LARGEST_YEAR, File, build_file, build_record, record_length
 from page import LINE_LENGTH, page_length
 from scales import TICKS_PER_DOUBLING as T
 from script import LONGEST_STRING
@@ -31,7 +31,7 @@ LARGEST_NUMBER = (1 << 32) - 1
 # 4,294,968,716. The others are powers of two and those beside them.
 LOGARITHMS_OF = (
     1, 2, 3, 5, 1_125, 2_411, 31_139, 49_083, (1 << 32) - 1, (1 << 32) + 1, 4_294_968_715, 4_294_968_716, (1 << 33) - 1, (1 << 40) - 1,
-    1 << 40, (1 << 44) - 1, 1 << 44,
+    1 << 40, *((1 << h) + d for h in (41, 42, 43) for d in (-1, 0, 1)), (1 << 44) - 1, 1 << 44,
 )
 
 
@@ -286,7 +286,7 @@ def damaged_files(rng: Random) -> Iterator[bytes]:
     yield from (call_open(rng.randbytes(rng.randint(0, 300))) for _ in range(10))
 
 
-# Drawn sessions.
+# Too long to be kept.
 
 
 def every_length() -> Iterator[bytes]:
@@ -297,6 +297,19 @@ def every_length() -> Iterator[bytes]:
         yield call_open(lent) + CLOSE
         if length >= 4:
             yield call_open(layout.with_length(lent[4:])) + CLOSE
+
+
+def every_cell() -> Iterator[bytes]:
+    """Each amount of each J at a limit, one past it, or at the most that 8 bytes hold, among the largest ones: its row, or the refusal."""
+    for last in range(1, LARGEST_YEAR + 1):
+        largest = build_file(samples.largest_figures(last))
+        for channel in (layout.PAID, layout.INCURRED):
+            for year, column in ((i, j) for i in range(last + 1) for j in range(last - i + 1)):
+                for amount in (AMOUNT_LIMITS[0] - 1, *AMOUNT_LIMITS, AMOUNT_LIMITS[1] + 1, (1 << 64) - 1):
+                    yield call_row(put(largest, layout.amount_place(last, channel, year, column), amount, 8), channel, year)
+
+
+# Drawn sessions.
 
 
 def drawn_session(rng: Random, draw: Callable[[Random, int], File] = samples.drawn_file) -> Iterator[bytes]:

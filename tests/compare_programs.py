@@ -1,8 +1,8 @@
 """The programs `listing`, `board_page` and `calls` against the reference, to the byte.
 
-First every vector and a file of every length, then files and sessions that the reference draws from a seed, then scripts of
-very many calls. Then what a whole input at once does not show: that the listing and the page take their input in pieces, and that
-`calls` answers each call before it reads the next.
+First every vector, a file of every length and each cell at its limits and past them, then files and sessions that the reference draws
+from a seed, then scripts of very many calls. Then what a whole input at once does not show: that the listing and the page take their
+input in pieces, and that `calls` answers each call before it reads the next.
 """
 
 import argparse
@@ -126,7 +126,7 @@ def complaints_of_a_session(folder: Path, calls: list[bytes]) -> Iterator[str]:
 def all_complaints(folder: Path, seed: int, count: int) -> Iterator[str]:
     made = vectors.make(vectors.DEFAULT_SEED)
     yield from complaints_at_once(folder, made)
-    yield from complaints_at_once(folder, vectors.make_lengths())
+    yield from complaints_at_once(folder, vectors.make_long())
     yield from complaints_at_once(folder, vectors.make_random(seed, count))
     yield from complaints_of_many_calls(folder)
     for program in PRINTS:

@@ -5,6 +5,7 @@ import unittest
 
 from believed import border, contract, file_of, modules_of_contract
 from declared import ROOT, text_of
+from letters import SUPPOSED, TO_THE_LETTER
 from unused import without_comments
 
 # What each function at the border ensures, to the letter, and the files of specs that its names come from.
@@ -61,8 +62,8 @@ PINNED = {
         "Machine opens judges judges-alone sweeps reads reads-alone pages pages-alone shows tells closes machine in-table same-outcomes "
         "row-empty loss-around",
     "laws/PinnedAmounts":
-        "amount-taken to-2^40 as-before opened-as-before row-as-before same-to-2^40 logarithm-to paid-step-to incurred-step-to "
-        "last-ratio-to paid-sum-to incurred-sum-to right-hand-to residue-to divided-to",
+        "amount-taken upTo up-to-2^44 as-before opened-as-before row-as-before same-to-2^40 logarithm-to paid-step-to incurred-step-to "
+        "last-ratio-to paid-sum-to incurred-sum-to own-side-of-phi-to own-side-of-psi-to ratios-to right-hand-to residue-to divided-to",
     "laws/PinnedLogarithms": "logarithm-bounded logarithm-nearest larger-logarithm one-tick-at-most largest-logarithm",
     "laws/PinnedPage": "page-bytes name-on-page index-on-page ticks-on-page weight-on-page spaces-on-page never-shared",
     "laws/PinnedPriors":
@@ -88,85 +89,6 @@ PINNED = {
         "figures-numbered shown-numbers shown-own shown-entry shown-right-hand numbers-of-file own-of-file entry-of-file "
         "right-hand-of-file row-told row-shows row-inside row-empty row-numbered judge-worth judge-rounded sweep-worth sweep-rounded "
         "write-worth",
-}
-
-# To the letter: how a logarithm is found, since a mistake that definition and code share would be proved; and what is said of it, of
-# amounts, of number 16 and of the numbers that there are, which no contract has.
-TO_THE_LETTER = {
-    "laws/Number16": (
-        "| module _ (f : Bytes) where abbrev pub oneToTen : Check oneToTen = check1 f then check2 f then check3 f then check4 f "
-        "then check5 f then check6 f then check7 f then check8 f then check9 f then check10 f pub accepted-exactly",
-        "pub accepted-exactly : (accepted f ≡ true) ↔ (oneToTen ≡ clear) unfolding",
-        "pub positive : oneToTen ≡ clear → (k : ℕ) → k < 2 * lastYear f + 1 → pos 0 <ℤ matrix (chainOf f) k k unfolding",
-        "pub zero-refused : (k : ℕ) → k < 2 * lastYear f + 1 → matrix (chainOf f) k k ≡ pos 0 → check16 ≡ refuses 16 0 zero-refused",
-        "pub no-zero-clear : ((k : ℕ) → k < 2 * lastYear f + 1 → matrix (chainOf f) k k ≢ pos 0) → check16 ≡ clear no-zero-clear",
-        "| pub refuses-no-bytes : check16 [] ≡ refuses 16 0 | unfolding",
-        "| module _ (X : Type 0) (keep : Bytes → X) (figures : X → Figures) where abbrev pub openWith16 : State X → Bytes → Outcome X "
-        "openWith16 empty f = openUnless X keep figures (oneToTen f then check16 f) f "
-        "openWith16 (holds x μ total) f = answers X keep figures (holds x μ total) (refused 22 0) pub alike-without-16",
-        "pub alike-without-16 : (st : State X) (f : Bytes) → openWith16 st f ≡ openCall X keep figures st f unfolding",
-        "pub never-16 : (st : State X) (call : Call) (place : ℕ) → outcome X keep figures st call .answer ≢ refused 16 place never-16",
-    ),
-    "definitions/Logarithm": (
-        "| abbrev pub ticksPerDoubling : ℕ | ticksPerDoubling = 1048576 "
-        "| unfoldable pub highestBit : ℕ → ℕ | highestBit a = 63 - leadingZeros 64 a "
-        "| unfoldable pub startFrom : ℕ → ℕ → ℕ | startFrom h a = cond (leb h 31) (a * 2 ^ (31 - h)) (a / 2 ^ (h - 31)) "
-        "| unfoldable pub nextBit : ℕ → ℕ | nextBit y = cond (leb (2 ^ 63) (y * y)) 1 0 "
-        "| unfoldable pub nextY : ℕ → ℕ | nextY y = cond (leb (2 ^ 63) (y * y)) (y * y / 2 ^ 32) (y * y / 2 ^ 31) "
-        "| unfoldable pub bitsOf : ℕ → ℕ → ℕ → ℕ | bitsOf zero y l = l | bitsOf (suc k) y l = bitsOf k (nextY y) (2 * l + nextBit y) "
-        "| abbrev pub squarings : ℕ | squarings = 21 | unfoldable pub halfTicks : ℕ → ℕ "
-        "| halfTicks a = 2 * highestBit a * ticksPerDoubling + bitsOf squarings (startFrom (highestBit a) a) 0 "
-        "| unfoldable pub logarithm : ℕ → ℕ | logarithm a = (halfTicks a + 1) / 2 |",
-    ),
-    "definitions/JointTable": (
-        "pub log-of-1 : logarithm 1 ≡ 0 pub log-of-2^40 : logarithm (2 ^ 40) ≡ 41943040 pub log-of-2^44 : logarithm (2 ^ 44) ≡ 46137344 "
-        "pub log-of-3 : logarithm 3 ≡ 1661954 pub weight-of",
-        "| pub jointTable : JointTable | unfolding",
-    ),
-    "laws/PinnedLogarithms": (
-        "| pub logarithm-bounded : (a : ℕ) → 1 ≤ a → a < 2 ^ 64 "
-        "→ (2 ^ (2 * logarithm a) ≤ 2 * a ^ 2097152) × (2 * a ^ 2097152 < 2 ^ (2 * logarithm a + 3)) | logarithm-bounded",
-        "| pub logarithm-nearest : (a : ℕ) → 1 ≤ a → a < 2 ^ 64 → 511 * a ^ 2097152 < 512 * 2 ^ (2 * logarithm a + 1) | logarithm-nearest",
-        "| pub larger-logarithm : (a b : ℕ) → 1 ≤ a → a ≤ b → b < 2 ^ 64 → logarithm a ≤ logarithm b | larger-logarithm",
-        "| pub one-tick-at-most : (a : ℕ) → let y : ℕ = startFrom (highestBit a) a in "
-        "logarithm a ≡ highestBit a * 1048576 + bitsOf 20 y 0 + bitsOf 21 y 0 % 2 | one-tick-at-most",
-        "| pub largest-logarithm : (a : ℕ) → 1 ≤ a → a ≤ 2 ^ 44 → logarithm a ≤ 46137344 | largest-logarithm",
-    ),
-    "laws/PinnedAmounts": (
-        "| pub amount-taken : (a : ℕ) → (goodAmount a ≡ true) ↔ ((1 ≤ a) × (a ≤ 17592186044416)) | amount-taken",
-        "| module _ (f : Bytes) where abbrev J : ℕ J = lastYear f abbrev c : Chain c = chainOf f abbrev pub to-2^40 : Check "
-        "to-2^40 = check1 f then check2 f then check3 f then check4 f then check5 f then check6 f then check7 f then check8 f "
-        "then fields (λ k. within 1 1099511627776 (amount f k)) 9 (amountAt J) 0 (2 * cells J) then check10 f "
-        "module _ (was : isClear to-2^40 ≡ true) where pub as-before : accepted f ≡ true as-before =",
-        "pub opened-as-before : (X : Type 0) (keep : Bytes → X) (figures : X → Figures) "
-        "→ openUnless X keep figures to-2^40 f ≡ openCall X keep figures empty f opened-as-before =",
-        "pub row-as-before : (channel year : ℕ) "
-        "→ to-2^40 then unless (leb channel 1) 14 0 then unless (leb year J) 15 0 ≡ rowCheck f channel year row-as-before =",
-        "pub same-to-2^40 : ((k : ℕ) → k < 2 * cells J → (amount f k ≤ 1099511627776) ⊎ (17592186044416 < amount f k)) "
-        "→ to-2^40 ≡ fileCheck f same-to-2^40 =",
-        "module _ (yes-file : accepted f ≡ true) where known : AcceptedFile f known = accepted-file f yes-file "
-        "pub logarithm-to : (k : ℕ) → k < 2 * cells J → logarithm (amount f k) ≤ 46137344 logarithm-to",
-        "pub paid-step-to : (i j : ℕ) → i + j ≤ J → natAbs (paidStep f i j) ≤ 46137344 paid-step-to =",
-        "pub incurred-step-to : (i j : ℕ) → i + j < J → natAbs (incurredStep f i j) ≤ 46137344 incurred-step-to =",
-        "pub last-ratio-to : (i : ℕ) → i ≤ J → natAbs (lastRatio f i) ≤ 46137344 last-ratio-to =",
-        "pub paid-sum-to : (j : ℕ) → j ≤ J → natAbs (sum (J - j + 1) (λ i. paidStep f i j)) ≤ 738197504 paid-sum-to =",
-        "pub incurred-sum-to : (j : ℕ) → j < J → natAbs (sum (J - j) (λ i. incurredStep f i j)) ≤ 692060160 incurred-sum-to =",
-        "pub right-hand-to : (k : ℕ) → k < 2 * J + 1 → natAbs (rightHand c k) ≤ 2196 * 2 ^ 47 right-hand-to =",
-        "pub residue-to : (μ : Vector) → ((l : ℕ) → l < 2 * J + 1 → natAbs (μ l) ≤ 67108864) "
-        "→ (k : ℕ) → k < 2 * J + 1 → natAbs (residueTimes c 1 μ k) ≤ 19732 * 2 ^ 47 residue-to =",
-        "pub divided-to : (μ : Vector) → ((l : ℕ) → l < 2 * J + 1 → natAbs (μ l) ≤ 67108864) "
-        "→ (k : ℕ) → k < 2 * J + 1 → natAbs (matrix c k k -ℤ pos 2 *ℤ residueTimes c 1 μ k) ≤ 39465 * 2 ^ 47 divided-to =",
-    ),
-    "laws/Pinned": (
-        "| pub in-table : (X : Type 0) (keep : Bytes → X) (figures : X → Figures) (st : State X) (call : Call) (number place : ℕ) "
-        "→ outcome X keep figures st call .answer ≡ refused number place "
-        "→ ((1 ≤ number) × (number ≤ 15)) ⊎ ((21 ≤ number) × (number ≤ 24)) | in-table",
-    ),
-    "opening/Pinned": (
-        "| pub as-with-16 : (s t : Held) (f : Bytes) (r : OpenAnswer) → Opens s f r t "
-        "→ let o : Outcome Figures = openWith16 Figures figuresOf (λ F. F) (stateOf s) f in "
-        "(ofOpen r ≡ o .answer) × (stateOf t ≡ o .state) | as-with-16",
-    ),
 }
 
 # The examples that document 01 marks with a star ("Figures to agree on").
@@ -218,8 +140,13 @@ class Promises(unittest.TestCase):
             lines = " ".join(re.sub(r"\n(?=\S)|$", " | ", text).split())  # with a bar before whatever stands in no module, and at the end
             for words in said:
                 self.assertIn(words, lines)
-        for file, modules in (("Number16", 2), ("PinnedAmounts", 3)):  # those that are expected
-            self.assertEqual(text_of(f"crates/laws/specs/{file}.antt").count("module _"), modules)
+
+    def test_what_pins_suppose(self) -> None:
+        for file in PINNED:
+            text = without_comments(ROOT / "crates/{}/specs/{}.antt".format(*file.split("/")))
+            modules = re.findall(r"^ *module _ (.*?) where$", text, re.MULTILINE | re.DOTALL)
+            self.assertEqual([" ".join(module.split()) for module in modules], [*SUPPOSED.get(file, ())], file)
+            self.assertEqual(len(re.findall(r"\bmodule\b", text)), len(modules), file)
 
     def test_a_session_is_private(self) -> None:
         fields = re.search(r"pub struct Session \{(.*?)\}", text_of("crates/session/src/lib.rt"), re.DOTALL)[1]

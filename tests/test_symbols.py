@@ -1,5 +1,5 @@
 """Symbols mean what a reader takes them to mean, in what must be believed and in what is pinned: each operator and each name of the kit is
-the kit's, each name of a definition is that definition's, and no text hides in a comment.
+the kit's, each name of a definition or of a sum is that one's, and no text hides in a comment.
 
 A file has such a name by a `use` line that says it, from the one module that it is of. The kit then refuses a declaration of that name, and
 an operator without a fixity. What would bring a name unsaid is refused here, and so are fields and variables of that name.
@@ -48,14 +48,28 @@ LOCAL = {
     "telling/Told": "length closeness shown own matrix part",
 }
 
+# Where `total` is that of the sweeps, and no sum.
+OF_SWEEPS = set(
+    "definitions/Machine definitions/Programs definitions/Sweep desk/Calls holding/Pinned holding/State judging/Judges laws/Number16 "
+    "session/Pinned session/Value showing/Shows sweeping/Sweeps telling/Told writing/Writes".split()
+)
+
 # The kit's names for an option. Here `some` is a field, and `none` what C is told where nothing is refused.
 OF_AN_OPTION = {"some", "none"}
 
 # Of the kit, which a clause may have in place of a variable.
 CONSTRUCTORS = {"[]", "zero", "suc", "pos", "negsuc", "true", "false", "inl", "inr"}
 
+# What is believed of `integers`, and the file of laws that hands it on.
+SUMS, HANDED_ON = "integers/Summation", "integers/Sum"
+
 # Besides its own module: what arrays stand for, and a struct of the source, may have the name of a definition too.
 ALSO_MEANT = r"Rattle·(chain\.specs\.Arrays|\w+(·specs)?\.specs\.declared\..*)"
+
+
+def local_to(name: str) -> set[str]:
+    file = file_at(name)
+    return {*LOCAL.get(file, "").split(), *(["total"] if file in OF_SWEEPS else [])}
 
 
 def path_of(file: str) -> str:
@@ -115,9 +129,9 @@ def names_of_the_kit() -> dict[str, set[str]]:
 
 
 def names_of_definitions() -> list[tuple[str, str]]:
-    """Each name that `definitions` declares, and the file of its module."""
+    """Each name that `definitions` and the sums declare, and the file of its module."""
     declared = r"^ *(?:(?:abbrev|unfoldable) pub|pub (?:record|data)) ([^\s{]+)"
-    paths = [path for path in sources(".antt") if path.startswith("crates/definitions/specs/")]
+    paths = [path for path in sources(".antt") if path.startswith("crates/definitions/specs/") or path == path_of(SUMS)]
     return [(word, path) for path in paths for word in re.findall(declared, text_of(path), re.MULTILINE)]
 
 
@@ -154,7 +168,7 @@ class Symbols(unittest.TestCase):
         signs = {word.strip("_") if is_operator(word) else word: word for word in modules}
         for name in said():
             brought = dict(imported(name))
-            local = set(LOCAL.get(file_at(name), "").split())
+            local = local_to(name)
             for word in words_of(name) & signs.keys() - local:
                 self.assertIn(brought.get(signs[word]), modules[signs[word]], f"{name}: {word}")
             self.assertLessEqual(bound_in(name) & modules.keys(), local, name)
@@ -164,11 +178,15 @@ class Symbols(unittest.TestCase):
         self.assertEqual(len(definitions), len(names_of_definitions()))
         for name in said():
             brought = dict(imported(name))
-            local = {*LOCAL.get(file_at(name), "").split(), *(word for word in definitions if definitions[word] == name)}
+            local = local_to(name) | {word for word in definitions if definitions[word] == name}
             self.assertLessEqual(bound_in(name) & definitions.keys(), local, name)
             for word in words_of(name) & definitions.keys() - local:
-                module = rf"Rattle.definitions(·specs)?\.specs\.{file_at(definitions[word]).partition('/')[2]}"
-                self.assertRegex(brought.get(word, ""), rf"^({module}|{ALSO_MEANT})$", f"{name}: {word}")
+                files = {SUMS, HANDED_ON} if file_at(definitions[word]) == SUMS else {file_at(definitions[word])}
+                modules = "|".join(r"Rattle.{}(·specs)?\.specs\.{}".format(*file.split("/")) for file in files)
+                self.assertRegex(brought.get(word, ""), rf"^({modules}|{ALSO_MEANT})$", f"{name}: {word}")
+
+    def test_sums_are_handed_on_as_they_are(self) -> None:
+        self.assertIn("unfoldable pub use Rattle.integers.specs.Summation.{sum, total}\n", text_of(path_of(HANDED_ON)))
 
 
 if __name__ == "__main__":

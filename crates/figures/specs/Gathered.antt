@@ -1,11 +1,10 @@
 -- From an accepted file: what each function asks holds, and the figures that are gathered are the specification's.
-use Prim.Native.Nat.{ℕ, _*_, _-_, _^_, _≤_, _<_}
+use Prim.Native.Nat.{ℕ, _^_, _≤_, _<_}
 use mathlib.Core.Path.{_≡_, _∙_}
 use mathlib.Core.List.{List}
 use native.Mathlib.Decide.{decLe}
 use native.Mathlib.Omega.{arith}
-use lib.IntN.{ℤ, pos, natAbs, _*ℤ_}
-use Rattle.integers.specs.Size.{natAbs-*-≤}
+use lib.IntN.{ℤ, pos, natAbs}
 use Rattle.integers.specs.Total.{total-bound, sum-size}
 use Rattle.definitions.specs.Words.{part}
 use Rattle.definitions.specs.Layout.{Bytes, lastYear, closeness, parts, varianceOf, amount}
@@ -16,8 +15,7 @@ use Rattle.laws.specs.Accepted.{AcceptedFile}
 use Rattle.laws.specs.WeightLaws.{weight-at-most}
 use Rattle.laws.specs.FileBounds.{prior-to, g-to}
 use Rattle.laws.specs.Diagonal.{matrix-symmetric}
-use Rattle.laws.specs.FileLimits.{observedLimit, logarithm-limit, y-limit, file-limits}
-use Rattle.laws.specs.PrecisionMatrix.{ratios-by-development}
+use Rattle.laws.specs.FileLimits.{logarithm-limit, ratios-fit, file-limits}
 use Rattle.laws.specs.Tables.{tab-cong}
 use Rattle.row_starts.specs.Starts.{Starts}
 use Rattle.layout.specs.Checks.{Whole}
@@ -97,16 +95,6 @@ module _ (f : Bytes) (h : AcceptedFile f) where
   pub file-ratios : {g : List ℕ} {logs : List ℤ} {starts : List ℕ} → RatioWeights f g → OfRows logs starts J → OfRatios g logs starts J
   file-ratios g h = record { of-rows = h; weights-small = weights-to g }
 
-  ratio-sum-to : (m : ℕ) → m ≤ J → natAbs (ratiosOfLast c m) ≤ 2 ^ 58
-  ratio-sum-to m few =
-      rw (ratios-by-development c m few) (omega (arith, h .years .to, sum-size m term, total-bound m (2 ^ 27 * observedLimit) term-to))
-    where
-      term : ℕ → ℤ
-      term d = pos (c .g d) *ℤ c .y (J - d)
-
-      term-to : (d : ℕ) → d < m → natAbs (term d) ≤ 2 ^ 27 * observedLimit
-      term-to d below = natAbs-*-≤ (pos (c .g d)) (c .y (J - d)) (g-to f h d (omega arith)) (y-limit f h (J - d) (omega arith))
-
   module _ {a : Arrays} (r : OfFile f J a) where
     ratios-are : (m : ℕ) → m ≤ J → part (a .ratios) m ≡ ratiosOfLast c m
     ratios-are = ratios-agree f (r .logs-are) (r .weights-are) (r .ratios-are)
@@ -118,7 +106,7 @@ module _ (f : Bytes) (h : AcceptedFile f) where
       means-small = λ k below. rw (r .means-are .filled .front k below) (h .prior-means k below);
       columns-small = columns-to (r .columns-are);
       sums-small = λ k below. rw (r .sums-are .filled .front k below) (columnSum-small (a .logs) J k (file-logs (r .logs-are)));
-      ratios-small = λ m few. rw (ratios-are m few) (ratio-sum-to m few);
+      ratios-small = λ m few. rw (ratios-are m few) (omega (arith, ratios-fit f h m few));
     }
 
     own-is : (k : ℕ) → k < n → at (a .own) k ≡ own c k

@@ -1,5 +1,5 @@
--- The sizes of an accepted file's figures: everything that the desk computes from it fits 64 bits. Each is drawn from the limits of the
--- file's own fields, an amount's by its logarithm, and from nothing wider.
+-- The sizes of an accepted file's figures: whatever the specification's formulas form of it fits 64 bits. Each is drawn from the limits of
+-- the file's own fields, an amount's by its logarithm, and from nothing wider.
 use Prim.Native.Nat.{ℕ, zero, suc, _+_, _*_, _-_, _^_, _≤_, _<_}
 use mathlib.Core.Path.{ap}
 use mathlib.Core.Logic.{_≢_}
@@ -17,12 +17,12 @@ use Rattle.definitions.specs.Weight.{weight}
 use Rattle.definitions.specs.Refusals.{amountLimit, partLimit}
 use Rattle.definitions.specs.Loss.{Vector}
 use Rattle.definitions.specs.Observations.{Chain, chainOf, paidStep, incurredStep, lastRatio}
-use Rattle.definitions.specs.Matrix.{own, matrix, rightHand, residueTimes}
+use Rattle.definitions.specs.Matrix.{own, matrix, ratiosOfLast, rightHand, residueTimes}
 use Rattle.laws.specs.Cells.{cell-below}
 use Rattle.laws.specs.Accepted.{AcceptedFile, Within}
 use Rattle.laws.specs.LogarithmBound.{logarithm-at-most}
 use Rattle.laws.specs.PrecisionMatrix.{firstsOf}
-use Rattle.laws.specs.Sizes.{Limits, entry-limit, target-limit, residue-limit}
+use Rattle.laws.specs.Sizes.{Limits, entry-limit, ratios-limit, target-limit, residue-limit}
 use Rattle.laws.specs.FileBounds.{ownLimit, shareLimit, p-to, q-to, g-to, prior-to, by-own}
 
 -- ---- logarithms of amounts
@@ -88,17 +88,22 @@ module _ (f : Bytes) (h : AcceptedFile f) where
       le-trans (natAbs-+ (pos (weight (priorVariance f k)) *ℤ priorMean f k) (pos w *ℤ sum n o))
       (omega (arith, prior, natAbs-*-≤ (pos w) (sum n o) light sums))
 
+  pub phi-firsts : (j : ℕ) → j ≤ J → natAbs (pos (c .s j) *ℤ c .priorΦ j +ℤ pos (c .p j) *ℤ sum (J - j + 1) (λ i. c .x i j)) ≤ firstsLimit
+  phi-firsts j below =
+      column-limit j (omega arith) (λ i. c .x i j) (p-to f h j below) (omega (arith, h .years .to)) (λ i i-below. x-limit i j (omega arith))
+
+  pub psi-firsts : (j : ℕ) → j < J → natAbs (pos (c .t j) *ℤ c .priorΨ j +ℤ pos (c .q j) *ℤ sum (J - j) (λ i. c .z i j)) ≤ firstsLimit
+  psi-firsts j below =
+      column-limit (psiIndex J j) (omega arith) (λ i. c .z i j) (q-to f h j below) (omega (arith, h .years .to))
+      (λ i i-below. z-limit i j (omega arith))
+
   pub file-limits : Limits c ownLimit shareLimit firstsLimit observedLimit
   file-limits = record {
     own-to = by-own f h (λ D a. D ≤ ownLimit)
         (λ j below. omega (arith, h .years .to, prior-to f h j (omega arith), mul-le-mul (count-p j) (p-to f h j below)))
         (λ j below. omega (arith, h .years .to, prior-to f h (psiIndex J j) (omega arith), mul-le-mul (count-q j) (q-to f h j below)));
     shares-to = g-to f h;
-    firsts-to = by-own f h (λ D a. natAbs (firstsOf c a) ≤ firstsLimit)
-        (λ j below. column-limit j (omega arith) (λ i. c .x i j) (p-to f h j below) (count-p j)
-        (λ i i-below. x-limit i j (omega arith)))
-        (λ j below. column-limit (psiIndex J j) (omega arith) (λ i. c .z i j) (q-to f h j below) (omega (arith, count-q j))
-        (λ i i-below. z-limit i j (omega arith)));
+    firsts-to = by-own f h (λ D a. natAbs (firstsOf c a) ≤ firstsLimit) phi-firsts psi-firsts;
     ratios-to = λ d below. y-limit (J - d) (omega arith);
   }
     where
@@ -130,6 +135,11 @@ module _ (f : Bytes) (h : AcceptedFile f) where
       let with-own = ap natAbs (only-same k (pos (own c k))) in
       let own-weight = file-limits .own-to k below in
       omega (arith, entry-limit c file-limits k k below below, mul-le-mul-right shareLimit (h .years .to))
+
+  -- what the ratios of m development years give to a right-hand side
+  pub ratios-fit : (m : ℕ) → m ≤ J → natAbs (ratiosOfLast c m) ≤ 660 * 2 ^ 47
+  ratios-fit m few =
+      omega (arith, ratios-limit c file-limits m few, mul-le-mul-right (shareLimit * observedLimit) (le-trans few (h .years .to)))
 
   pub right-hand-fits : (k : ℕ) → k < parts J → natAbs (rightHand c k) ≤ 2196 * 2 ^ 47
   right-hand-fits k below = omega (arith, target-limit c file-limits k below, mul-le-mul-right (shareLimit * observedLimit) (h .years .to))

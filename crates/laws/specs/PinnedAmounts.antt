@@ -1,30 +1,29 @@
--- Amounts to 2^44 once more, in plain numbers: which are taken, that files with amounts to 2^40 give what they gave, and how large whatever
--- is made of an accepted file's amounts may become. Nothing of `LargerAmounts` and `FileLimits` is named in what is said, so that none of
--- their laws can be weakened, or hold of larger amounts by chance, and still give these.
+-- Amounts to 2^44 once more, in plain numbers: what number 9 takes, that files with amounts to 2^40 give what they gave, and how large
+-- whatever is made of an accepted file's amounts may become. Nothing of `LargerAmounts` and `FileLimits` is named in what is said, so that
+-- none of their laws can be weakened and still give these.
 use Prim.Native.Nat.{ℕ, _+_, _*_, _-_, _^_, _≤_, _<_}
 use mathlib.Core.Path.{_≡_, refl}
 use mathlib.Core.Logic.{_⊎_, _↔_}
 use mathlib.Core.Bool.{true}
 use borrow.Author.Tests.{le-leb}
 use lib.Dec.{leb}
-use lib.IntN.{pos, natAbs, _-ℤ_, _*ℤ_}
+use lib.IntN.{pos, natAbs, _+ℤ_, _-ℤ_, _*ℤ_}
 use Rattle.integers.specs.Sum.{sum}
 use Rattle.definitions.specs.Words.{within}
 use Rattle.definitions.specs.Layout.{Bytes, lastYear, cells, amount, amountAt}
 use Rattle.definitions.specs.Logarithm.{logarithm}
 use Rattle.definitions.specs.Observations.{Chain, chainOf, paidStep, incurredStep, lastRatio}
 use Rattle.definitions.specs.Loss.{Vector}
-use Rattle.definitions.specs.Matrix.{Figures, matrix, rightHand, residueTimes}
+use Rattle.definitions.specs.Matrix.{Figures, matrix, ratiosOfLast, rightHand, residueTimes}
 use Rattle.definitions.specs.Refusals.{Check, unless, fields, _then_, goodAmount, fileCheck, rowCheck, isClear, accepted}
 use Rattle.definitions.specs.Refusals.{check1, check2, check3, check4, check5, check6, check7, check8, check10}
 use Rattle.definitions.specs.Machine.{empty, openUnless, openCall}
 use Rattle.laws.specs.Accepted.{AcceptedFile, within-yes, accepted-file}
 use Rattle.laws.specs.AcceptedBefore.{still-accepted, opened-alike, row-alike}
-use Rattle.laws.specs.LargerAmounts.{amounts-kept, same-but-between}
+use Rattle.laws.specs.LargerAmounts.{fileCheck-is, amounts-kept, same-but-between}
 use Rattle.laws.specs.FileLimits.{logarithm-limit, x-limit, z-limit, y-limit, x-sum-fits, z-sum-fits}
-use Rattle.laws.specs.FileLimits.{right-hand-fits, residue-fits, numerator-fits}
+use Rattle.laws.specs.FileLimits.{phi-firsts, psi-firsts, ratios-fit, right-hand-fits, residue-fits, numerator-fits}
 
--- the amounts that number 9 takes
 pub amount-taken : (a : ℕ) → (goodAmount a ≡ true) ↔ ((1 ≤ a) × (a ≤ 17592186044416))
 amount-taken a = (
   λ e. let w = within-yes 1 (2 ^ 44) a (rw e tt) in (w .from, w .to),
@@ -38,28 +37,34 @@ module _ (f : Bytes) where
   abbrev c : Chain
   c = chainOf f
 
-  -- ---- 1 to 10, where 9 takes no amount above 2^40
+  -- ---- 1 to 10, where 9 takes every amount from 1 to a limit, and no other
 
-  abbrev pub to-2^40 : Check
-  to-2^40 =
+  abbrev pub upTo : ℕ → Check
+  upTo limit =
       check1 f then check2 f then check3 f then check4 f then check5 f then check6 f then check7 f then check8 f
-      then fields (λ k. within 1 1099511627776 (amount f k)) 9 (amountAt J) 0 (2 * cells J)
+      then fields (λ k. within 1 limit (amount f k)) 9 (amountAt J) 0 (2 * cells J)
       then check10 f
 
-  module _ (was : isClear to-2^40 ≡ true) where
+  -- the limit is 2^44, in every cell of every file
+  pub up-to-2^44 : upTo 17592186044416 ≡ fileCheck f
+  up-to-2^44 = fileCheck-is f
+
+  -- files that are let through with 2^40
+  module _ (was : isClear (upTo 1099511627776) ≡ true) where
     pub as-before : accepted f ≡ true
-    as-before = still-accepted f to-2^40 (amounts-kept f) was
+    as-before = still-accepted f (upTo 1099511627776) (amounts-kept f) was
 
     pub opened-as-before : (X : Type 0) (keep : Bytes → X) (figures : X → Figures)
-        → openUnless X keep figures to-2^40 f ≡ openCall X keep figures empty f
-    opened-as-before = opened-alike f to-2^40 (amounts-kept f) was
+        → openUnless X keep figures (upTo 1099511627776) f ≡ openCall X keep figures empty f
+    opened-as-before = opened-alike f (upTo 1099511627776) (amounts-kept f) was
 
     pub row-as-before : (channel year : ℕ)
-        → to-2^40 then unless (leb channel 1) 14 0 then unless (leb year J) 15 0 ≡ rowCheck f channel year
-    row-as-before = row-alike f to-2^40 (amounts-kept f) was
+        → upTo 1099511627776 then unless (leb channel 1) 14 0 then unless (leb year J) 15 0 ≡ rowCheck f channel year
+    row-as-before = row-alike f (upTo 1099511627776) (amounts-kept f) was
 
   -- the two part at an amount above 2^40 and up to 2^44 alone
-  pub same-to-2^40 : ((k : ℕ) → k < 2 * cells J → (amount f k ≤ 1099511627776) ⊎ (17592186044416 < amount f k)) → to-2^40 ≡ fileCheck f
+  pub same-to-2^40 : ((k : ℕ) → k < 2 * cells J → (amount f k ≤ 1099511627776) ⊎ (17592186044416 < amount f k))
+      → upTo 1099511627776 ≡ fileCheck f
   same-to-2^40 = same-but-between f
 
   -- ---- sizes, of an accepted file
@@ -86,6 +91,18 @@ module _ (f : Bytes) where
 
     pub incurred-sum-to : (j : ℕ) → j < J → natAbs (sum (J - j) (λ i. incurredStep f i j)) ≤ 692060160
     incurred-sum-to = z-sum-fits f known
+
+    -- a part's prior and own observations, and the last ratios, as the right-hand side has them
+    pub own-side-of-phi-to : (j : ℕ) → j ≤ J
+        → natAbs (pos (c .s j) *ℤ c .priorΦ j +ℤ pos (c .p j) *ℤ sum (J - j + 1) (λ i. c .x i j)) ≤ 1536 * 2 ^ 47
+    own-side-of-phi-to = phi-firsts f known
+
+    pub own-side-of-psi-to : (j : ℕ) → j < J
+        → natAbs (pos (c .t j) *ℤ c .priorΨ j +ℤ pos (c .q j) *ℤ sum (J - j) (λ i. c .z i j)) ≤ 1536 * 2 ^ 47
+    own-side-of-psi-to = psi-firsts f known
+
+    pub ratios-to : (m : ℕ) → m ≤ J → natAbs (ratiosOfLast c m) ≤ 660 * 2 ^ 47
+    ratios-to = ratios-fit f known
 
     pub right-hand-to : (k : ℕ) → k < 2 * J + 1 → natAbs (rightHand c k) ≤ 2196 * 2 ^ 47
     right-hand-to = right-hand-fits f known

@@ -117,6 +117,16 @@ module _ (c : Chain) where
     entry-limit k l k-below l-below =
         omega (arith, entry-size k l G k-below l-below (shares-of k k-below), mul-le-mul-right G (rank-below J l l-below))
 
+    -- the last ratios of m development years, each times its g
+    pub ratios-limit : (m : ℕ) → m ≤ J → natAbs (ratiosOfLast c m) ≤ m * (G * X)
+    ratios-limit m few = rw (ratios-by-development c m few) (le-trans (sum-size m term) (total-bound m (G * X) term-to))
+      where
+        term : ℕ → ℤ
+        term d = pos (c .g d) *ℤ c .y (J - d)
+
+        term-to : (d : ℕ) → d < m → natAbs (term d) ≤ G * X
+        term-to d past = natAbs-*-≤ (pos (c .g d)) (c .y (J - d)) (h .shares-to d (omega arith)) (h .ratios-to d (omega arith))
+
     pub target-limit : (k : ℕ) → k < n → natAbs (rightHand c k) ≤ B + J * (G * X)
     unfolding rightHand
     target-limit k below =
@@ -124,22 +134,13 @@ module _ (c : Chain) where
         let firsts = h .firsts-to k below in
         rw (target-by-rank c (kind k))
         (le-trans (natAbs-+ (firstsOf c (kind k)) (signOf (kind k) *ℤ ratiosOfLast c r))
-        (omega (arith, ratios, mul-le-mul-right (G * X) in-years)))
+        (omega (arith, ratios-limit r in-years, mul-le-mul-right (G * X) in-years)))
       where
         r : ℕ
         r = rank k
 
         in-years : r ≤ J
         in-years = rank-below J k below
-
-        term : ℕ → ℤ
-        term d = pos (c .g d) *ℤ c .y (J - d)
-
-        term-to : (d : ℕ) → d < r → natAbs (term d) ≤ G * X
-        term-to d past = natAbs-*-≤ (pos (c .g d)) (c .y (J - d)) (shares-of k below d past) (h .ratios-to d (omega (arith, in-years)))
-
-        ratios : natAbs (ratiosOfLast c r) ≤ r * (G * X)
-        ratios = rw (ratios-by-development c r in-years) (le-trans (sum-size r term) (total-bound r (G * X) term-to))
 
         one-sign : (a : Part) (z : ℤ) → natAbs (signOf a *ℤ z) ≡ natAbs z
         one-sign (Φ j) z = natAbs-* (pos 1) z ∙ omega arith

@@ -1,0 +1,233 @@
+"""What definitions and pins say, to the letter. `test_promises` compares it; a bar stands before whatever is in no module, and at the end.
+
+Of the definitions: how a logarithm is found, the observations, and what 1 to 10 let through, since a mistake that definition and code share
+would be proved. Of the pins: what is said of logarithms, of amounts, of files without a prior, of number 16 and of the numbers that there
+are, which no contract has; and of each file of pins, what its modules suppose, since one that supposes too much says nothing.
+"""
+
+TO_THE_LETTER = {
+    "definitions/Refusals": (
+        "| abbrev pub yearLimit : ℕ | yearLimit = 15 "
+        "| abbrev pub closenessLimit : ℕ | closenessLimit = 65536 "
+        "| abbrev pub amountLimit : ℕ | amountLimit = 2 ^ 44 "
+        "| abbrev pub goodVariance : ℕ → Bool | goodVariance v = within (2 ^ 18) (2 ^ 40) v "
+        "| abbrev pub goodPriorVariance : ℕ → Bool | goodPriorVariance v = eqb v 0 || within (2 ^ 18) (2 ^ 46) v "
+        "| abbrev pub partLimit : ℕ | partLimit = 2 ^ 26 "
+        "| abbrev pub goodPart : ℤ → Bool | goodPart z = leb (natAbs z) partLimit "
+        "| abbrev pub goodAmount : ℕ → Bool | goodAmount a = within 1 amountLimit a "
+        "| unfoldable pub check1 : Bytes → Check | check1 s = unless (leb 10 (length s) && eqb (lengthWord s) (length s)) 1 0 "
+        "| unfoldable pub check2 : Bytes → Check | check2 s = unless (eqb (version s) 1) 2 4 "
+        "| unfoldable pub check3 : Bytes → Check | check3 s = unless (within 1 yearLimit (lastYear s)) 3 5 "
+        "| unfoldable pub check4 : Bytes → Check | check4 s = unless (eqb (length s) (fileLength (lastYear s))) 4 0 "
+        "| unfoldable pub check5 : Bytes → Check | check5 s = unless (within 1 closenessLimit (closeness s)) 5 6 "
+        "| unfoldable pub check6 : Bytes → Check | check6 s = fields (λ k. goodVariance (varianceOf s k)) 6 varianceAt 0 (parts "
+        "(lastYear s)) "
+        "| unfoldable pub check7 : Bytes → Check | check7 s = fields (λ k. goodPriorVariance (priorVariance s k)) 7 (priorVarianceAt "
+        "(lastYear s)) 0 (parts (lastYear s)) "
+        "| unfoldable pub check8 : Bytes → Check | check8 s = fields (λ k. goodPart (priorMean s k)) 8 (priorMeanAt (lastYear s)) 0 "
+        "(parts (lastYear s)) "
+        "| unfoldable pub check9 : Bytes → Check | check9 s = fields (λ c. goodAmount (amount s c)) 9 (amountAt (lastYear s)) 0 (2 * "
+        "cells (lastYear s)) "
+        "| unfoldable pub check10 : Bytes → Check | check10 s = unless (eqb (paid s 0 (lastYear s)) (incurred s 0 (lastYear s))) 10 "
+        "(paidAt (lastYear s) 0 (lastYear s)) "
+        "| unfoldable pub fileCheck : Bytes → Check | fileCheck s = check1 s then check2 s then check3 s then check4 s then check5 s "
+        "then check6 s then check7 s then check8 s then check9 s then check10 s "
+        "| abbrev pub accepted : Bytes → Bool | accepted s = isClear (fileCheck s) |",
+    ),
+    "definitions/Logarithm": (
+        "| abbrev pub ticksPerDoubling : ℕ | ticksPerDoubling = 1048576 "
+        "| unfoldable pub highestBit : ℕ → ℕ | highestBit a = 63 - leadingZeros 64 a "
+        "| unfoldable pub startFrom : ℕ → ℕ → ℕ | startFrom h a = cond (leb h 31) (a * 2 ^ (31 - h)) (a / 2 ^ (h - 31)) "
+        "| unfoldable pub nextBit : ℕ → ℕ | nextBit y = cond (leb (2 ^ 63) (y * y)) 1 0 "
+        "| unfoldable pub nextY : ℕ → ℕ | nextY y = cond (leb (2 ^ 63) (y * y)) (y * y / 2 ^ 32) (y * y / 2 ^ 31) "
+        "| unfoldable pub bitsOf : ℕ → ℕ → ℕ → ℕ | bitsOf zero y l = l | bitsOf (suc k) y l = bitsOf k (nextY y) (2 * l + nextBit y) "
+        "| abbrev pub squarings : ℕ | squarings = 21 | unfoldable pub halfTicks : ℕ → ℕ "
+        "| halfTicks a = 2 * highestBit a * ticksPerDoubling + bitsOf squarings (startFrom (highestBit a) a) 0 "
+        "| unfoldable pub logarithm : ℕ → ℕ | logarithm a = (halfTicks a + 1) / 2 |",
+    ),
+    "definitions/Observations": (
+        "| unfoldable pub ratioVariance : Bytes → ℕ → ℕ | ratioVariance f k = total (lastYear f - k) (λ i. σ² f (k + 1 + i)) + total "
+        "(lastYear f - k) (λ i. τ² f (k + i)) "
+        "| abbrev pub logOf : ℕ → ℤ | logOf a = pos (logarithm a) "
+        "| unfoldable pub paidStep : Bytes → ℕ → ℕ → ℤ | paidStep f i zero = logOf (paid f i 0) | paidStep f i (suc j) = logOf (paid "
+        "f i (suc j)) -ℤ logOf (paid f i j) "
+        "| unfoldable pub incurredStep : Bytes → ℕ → ℕ → ℤ | incurredStep f i j = logOf (incurred f i (j + 1)) -ℤ logOf (incurred f i "
+        "j) "
+        "| unfoldable pub lastRatio : Bytes → ℕ → ℤ | lastRatio f i = logOf (incurred f i (lastYear f - i)) -ℤ logOf (paid f i "
+        "(lastYear f - i)) "
+        "| abbrev pub chainOf : Bytes → Chain | chainOf f = record { last = lastYear f; p = λ j. weight (σ² f j); q = λ j. weight (τ² "
+        "f j); s = λ j. weight (priorVariance f j); t = λ j. weight (priorVariance f (psiIndex (lastYear f) j)); g = λ k. weight "
+        "(ratioVariance f k); x = paidStep f; z = incurredStep f; y = lastRatio f; priorΦ = priorMean f; priorΨ = λ j. priorMean f "
+        "(psiIndex (lastYear f) j); | }",
+    ),
+    "definitions/JointTable": (
+        "| abbrev 2^44-in-8 : Bytes | 2^44-in-8 = 0 ∷ 0 ∷ 16 ∷ 0 ∷ 0 ∷ 0 ∷ 0 ∷ 0 ∷ [] "
+        "| abbrev above-2^44-in-8 : Bytes | above-2^44-in-8 = 0 ∷ 0 ∷ 16 ∷ 0 ∷ 0 ∷ 0 ∷ 0 ∷ 1 ∷ [] |",
+        "| abbrev amountsF : (p₀ e p₁ i₀ i₁ : Bytes) → Bytes | amountsF p₀ e p₁ i₀ i₁ = before 1 10T-in-4 2^46-in-8 2^46-in-8 "
+        "2^46-in-8 ++ p₀ ++ e ++ p₁ ++ i₀ ++ e ++ i₁ |",
+        "pub log-of-1 : logarithm 1 ≡ 0 pub log-of-2^40 : logarithm (2 ^ 40) ≡ 41943040 pub log-of-2^44 : logarithm (2 ^ 44) ≡ "
+        "46137344 pub log-of-3 : logarithm 3 ≡ 1661954 pub weight-of-2^18",
+        "pub largest-accepted : accepted (amountsF 2^44-in-8 2^44-in-8 2^44-in-8 2^44-in-8 2^44-in-8) ≡ true "
+        "pub largest-right-hand : figuresOf (amountsF 2^44-in-8 2^44-in-8 2^44-in-8 2^44-in-8 2^44-in-8) .rightHand ≡ pos "
+        "6047324438528 ∷ pos 1048576 ∷ negsuc 1048575 ∷ [] "
+        "pub beside-1-right-hand : figuresOf (amountsF 1-in-8 2^44-in-8 1-in-8 1-in-8 2^44-in-8) .rightHand ≡ pos 10485760 ∷ pos "
+        "4535486513152 ∷ pos 1511827439616 ∷ [] "
+        "pub paid-first-above : fileCheck (amountsF above-2^44-in-8 2^44-in-8 2^44-in-8 2^44-in-8 2^44-in-8) ≡ refuses 9 70 "
+        "pub paid-last-above : fileCheck (amountsF 1-in-8 2^44-in-8 above-2^44-in-8 above-2^44-in-8 2^44-in-8) ≡ refuses 9 86 "
+        "pub incurred-first-above : fileCheck (amountsF 1-in-8 2^44-in-8 1-in-8 above-2^44-in-8 0-in-8) ≡ refuses 9 94 "
+        "pub incurred-last-above : fileCheck (amountsF 1-in-8 2^44-in-8 1-in-8 1-in-8 above-2^44-in-8) ≡ refuses 9 110 "
+        "pub amount-0 : fileCheck (amountsF 1-in-8 2^44-in-8 0-in-8 1-in-8 1-in-8) ≡ refuses 9 86 |",
+        "| pub jointTable : JointTable | unfolding",
+    ),
+    "laws/PinnedLogarithms": (
+        "| pub logarithm-bounded : (a : ℕ) → 1 ≤ a → a < 2 ^ 64 "
+        "→ (2 ^ (2 * logarithm a) ≤ 2 * a ^ 2097152) × (2 * a ^ 2097152 < 2 ^ (2 * logarithm a + 3)) | logarithm-bounded",
+        "| pub logarithm-nearest : (a : ℕ) → 1 ≤ a → a < 2 ^ 64 → 511 * a ^ 2097152 < 512 * 2 ^ (2 * logarithm a + 1) | logarithm-nearest",
+        "| pub larger-logarithm : (a b : ℕ) → 1 ≤ a → a ≤ b → b < 2 ^ 64 → logarithm a ≤ logarithm b | larger-logarithm",
+        "| pub one-tick-at-most : (a : ℕ) → let y : ℕ = startFrom (highestBit a) a in "
+        "logarithm a ≡ highestBit a * 1048576 + bitsOf 20 y 0 + bitsOf 21 y 0 % 2 | one-tick-at-most",
+        "| pub largest-logarithm : (a : ℕ) → 1 ≤ a → a ≤ 2 ^ 44 → logarithm a ≤ 46137344 | largest-logarithm",
+    ),
+    "laws/Number16": (
+        "| module _ (f : Bytes) where abbrev pub oneToTen : Check oneToTen = check1 f then check2 f then check3 f then check4 f "
+        "then check5 f then check6 f then check7 f then check8 f then check9 f then check10 f pub accepted-exactly",
+        "pub accepted-exactly : (accepted f ≡ true) ↔ (oneToTen ≡ clear) unfolding",
+        "pub positive : oneToTen ≡ clear → (k : ℕ) → k < 2 * lastYear f + 1 → pos 0 <ℤ matrix (chainOf f) k k unfolding",
+        "pub zero-refused : (k : ℕ) → k < 2 * lastYear f + 1 → matrix (chainOf f) k k ≡ pos 0 → check16 ≡ refuses 16 0 zero-refused",
+        "pub no-zero-clear : ((k : ℕ) → k < 2 * lastYear f + 1 → matrix (chainOf f) k k ≢ pos 0) → check16 ≡ clear no-zero-clear",
+        "| pub refuses-no-bytes : check16 [] ≡ refuses 16 0 | unfolding",
+        "| module _ (X : Type 0) (keep : Bytes → X) (figures : X → Figures) where abbrev pub openWith16 : State X → Bytes → Outcome X "
+        "openWith16 empty f = openUnless X keep figures (oneToTen f then check16 f) f "
+        "openWith16 (holds x μ total) f = answers X keep figures (holds x μ total) (refused 22 0) pub alike-without-16",
+        "pub alike-without-16 : (st : State X) (f : Bytes) → openWith16 st f ≡ openCall X keep figures st f unfolding",
+        "pub never-16 : (st : State X) (call : Call) (place : ℕ) → outcome X keep figures st call .answer ≢ refused 16 place never-16",
+    ),
+    "laws/Pinned": (
+        "| pub in-table : (X : Type 0) (keep : Bytes → X) (figures : X → Figures) (st : State X) (call : Call) (number place : ℕ) "
+        "→ outcome X keep figures st call .answer ≡ refused number place "
+        "→ ((1 ≤ number) × (number ≤ 15)) ⊎ ((21 ≤ number) × (number ≤ 24)) | in-table",
+    ),
+    "opening/Pinned": (
+        "| pub as-with-16 : (s t : Held) (f : Bytes) (r : OpenAnswer) → Opens s f r t "
+        "→ let o : Outcome Figures = openWith16 Figures figuresOf (λ F. F) (stateOf s) f in "
+        "(ofOpen r ≡ o .answer) × (stateOf t ≡ o .state) | as-with-16",
+    ),
+    "laws/PinnedPriors": (
+        "| pub prior-variance-taken : (v : ℕ) → (goodPriorVariance v ≡ true) ↔ ((v ≡ 0) ⊎ ((262144 ≤ v) × (v ≤ 70368744177664))) "
+        "| prior-variance-taken v =",
+        "| module _ (f : Bytes) where abbrev J : ℕ J = lastYear f abbrev c : Chain c = chainOf f abbrev with-priors : Check "
+        "with-priors = check1 f then check2 f then check3 f then check4 f then check5 f then check6 f then fields (λ k. within 262144 "
+        "70368744177664 (priorVariance f k)) 7 (priorVarianceAt J) 0 (2 * J + 1) then check8 f then check9 f then check10 f module _ "
+        "(was : isClear with-priors ≡ true) where pub accepted-still :",
+        "pub accepted-still : accepted f ≡ true accepted-still =",
+        "pub opened-still : (X : Type 0) (keep : Bytes → X) (figures : X → Figures) → openUnless X keep figures with-priors f ≡ "
+        "openCall X keep figures empty f opened-still =",
+        "pub row-still : (channel year : ℕ) → with-priors then unless (leb channel 1) 14 0 then unless (leb year J) 15 0 ≡ rowCheck f "
+        "channel year row-still =",
+        "pub same-with-priors : ((k : ℕ) → k < 2 * J + 1 → priorVariance f k ≢ 0) → with-priors ≡ fileCheck f same-with-priors =",
+        "pub phi-owned : accepted f ≡ true → (j : ℕ) → j ≤ J → (1 ≤ weight (σ² f j)) × (weight (σ² f j) ≤ own c j) phi-owned =",
+        "pub psi-owned : accepted f ≡ true → (j : ℕ) → j < J → (1 ≤ weight (τ² f j)) × (weight (τ² f j) ≤ own c (J + 1 + j)) "
+        "psi-owned =",
+        "pub phi-alone : (j : ℕ) → j ≤ J → priorVariance f j ≡ 0 → (own c j ≡ (J - j + 1) * weight (σ² f j)) × (rightHand c j ≡ pos "
+        "(weight (σ² f j)) *ℤ sum (J - j + 1) (λ i. paidStep f i j) +ℤ ratiosOfLast c j) phi-alone j below none =",
+        "pub psi-alone : (j : ℕ) → j < J → priorVariance f (J + 1 + j) ≡ 0 → (own c (J + 1 + j) ≡ (J - j) * weight (τ² f j)) × "
+        "(rightHand c (J + 1 + j) ≡ pos (weight (τ² f j)) *ℤ sum (J - j) (λ i. incurredStep f i j) -ℤ ratiosOfLast c (j + 1)) "
+        "psi-alone j below none =",
+    ),
+    "laws/PinnedAmounts": (
+        "| pub amount-taken : (a : ℕ) → (goodAmount a ≡ true) ↔ ((1 ≤ a) × (a ≤ 17592186044416)) | amount-taken a =",
+        "| module _ (f : Bytes) where abbrev J : ℕ J = lastYear f abbrev c : Chain c = chainOf f abbrev pub upTo : ℕ → Check upTo "
+        "limit = check1 f then check2 f then check3 f then check4 f then check5 f then check6 f then check7 f then check8 f then "
+        "fields (λ k. within 1 limit (amount f k)) 9 (amountAt J) 0 (2 * cells J) then check10 f pub up-to-2^44 :",
+        "pub up-to-2^44 : upTo 17592186044416 ≡ fileCheck f up-to-2^44 =",
+        "pub as-before : accepted f ≡ true as-before =",
+        "pub opened-as-before : (X : Type 0) (keep : Bytes → X) (figures : X → Figures) → openUnless X keep figures (upTo "
+        "1099511627776) f ≡ openCall X keep figures empty f opened-as-before =",
+        "pub row-as-before : (channel year : ℕ) → upTo 1099511627776 then unless (leb channel 1) 14 0 then unless (leb year J) 15 0 ≡ "
+        "rowCheck f channel year row-as-before =",
+        "pub same-to-2^40 : ((k : ℕ) → k < 2 * cells J → (amount f k ≤ 1099511627776) ⊎ (17592186044416 < amount f k)) → upTo "
+        "1099511627776 ≡ fileCheck f same-to-2^40 =",
+        "module _ (yes-file : accepted f ≡ true) where known : AcceptedFile f known = accepted-file f yes-file pub logarithm-to : (k "
+        ": ℕ) → k < 2 * cells J → logarithm (amount f k) ≤ 46137344 logarithm-to k below =",
+        "pub paid-step-to : (i j : ℕ) → i + j ≤ J → natAbs (paidStep f i j) ≤ 46137344 paid-step-to =",
+        "pub incurred-step-to : (i j : ℕ) → i + j < J → natAbs (incurredStep f i j) ≤ 46137344 incurred-step-to =",
+        "pub last-ratio-to : (i : ℕ) → i ≤ J → natAbs (lastRatio f i) ≤ 46137344 last-ratio-to =",
+        "pub paid-sum-to : (j : ℕ) → j ≤ J → natAbs (sum (J - j + 1) (λ i. paidStep f i j)) ≤ 738197504 paid-sum-to =",
+        "pub incurred-sum-to : (j : ℕ) → j < J → natAbs (sum (J - j) (λ i. incurredStep f i j)) ≤ 692060160 incurred-sum-to =",
+        "pub own-side-of-phi-to : (j : ℕ) → j ≤ J → natAbs (pos (c .s j) *ℤ c .priorΦ j +ℤ pos (c .p j) *ℤ sum (J - j + 1) (λ i. c .x "
+        "i j)) ≤ 1536 * 2 ^ 47 own-side-of-phi-to =",
+        "pub own-side-of-psi-to : (j : ℕ) → j < J → natAbs (pos (c .t j) *ℤ c .priorΨ j +ℤ pos (c .q j) *ℤ sum (J - j) (λ i. c .z i "
+        "j)) ≤ 1536 * 2 ^ 47 own-side-of-psi-to =",
+        "pub ratios-to : (m : ℕ) → m ≤ J → natAbs (ratiosOfLast c m) ≤ 660 * 2 ^ 47 ratios-to =",
+        "pub right-hand-to : (k : ℕ) → k < 2 * J + 1 → natAbs (rightHand c k) ≤ 2196 * 2 ^ 47 right-hand-to =",
+        "pub residue-to : (μ : Vector) → ((l : ℕ) → l < 2 * J + 1 → natAbs (μ l) ≤ 67108864) → (k : ℕ) → k < 2 * J + 1 → natAbs "
+        "(residueTimes c 1 μ k) ≤ 19732 * 2 ^ 47 residue-to =",
+        "pub divided-to : (μ : Vector) → ((l : ℕ) → l < 2 * J + 1 → natAbs (μ l) ≤ 67108864) → (k : ℕ) → k < 2 * J + 1 → natAbs "
+        "(matrix c k k -ℤ pos 2 *ℤ residueTimes c 1 μ k) ≤ 39465 * 2 ^ 47 divided-to =",
+    ),
+}
+
+# By file of pins: the parameters of its modules, in their order.
+SUPPOSED = {
+    "laws/Pinned": (
+        "(f : Bytes)",
+        "(yes-file : accepted f ≡ true) (μ : Vector)",
+        "(st : State Figures)",
+    ),
+    "laws/PinnedAmounts": (
+        "(f : Bytes)",
+        "(was : isClear (upTo 1099511627776) ≡ true)",
+        "(yes-file : accepted f ≡ true)",
+    ),
+    "laws/PinnedPage": (
+        "(f : Bytes) (yes-file : accepted f ≡ true) (μ : List ℤ) (limits : (k : ℕ) → k < 2 * lastYear f + 1 → natAbs (part μ k) ≤ "
+        "67108864)",
+        "(k : ℕ) (below : k < 2 * lastYear f + 1)",
+    ),
+    "laws/PinnedPriors": (
+        "(f : Bytes)",
+        "(was : isClear with-priors ≡ true)",
+    ),
+    "laws/Number16": (
+        "(f : Bytes)",
+        "(X : Type 0) (keep : Bytes → X) (figures : X → Figures)",
+    ),
+    "row_starts/Pinned": (
+        "(J : ℕ) (r : List ℕ) (starts : Starts J r)",
+    ),
+    "holding/Pinned": (
+        "(s : Held) (f : Bytes) (μ : List ℤ) (total : ℕ)",
+    ),
+    "judging/Pinned": (
+        "(f : Bytes) (s : Held) (μ : List ℤ) (count : ℕ) (open-file : HoldsFile s f μ count) (r : Bytes) {a : JudgeAnswer} (call "
+        ": Judges s r a)",
+    ),
+    "sweeping/Pinned": (
+        "(f : Bytes) (s t : Held) (μ ν : List ℤ) (count after : ℕ) (before : HoldsFile s f μ count) (then : HoldsFile t f ν "
+        "after) (n : ℕ) {a : SweepAnswer} (call : Sweeps s n a t)",
+    ),
+    "writing/Pinned": (
+        "(f : Bytes) (s : Held) (μ : List ℤ) (count : ℕ) (open-file : HoldsFile s f μ count)",
+    ),
+    "showing/Pinned": (
+        "(s : Held) (r : Showing) (call : Shows s r)",
+        "(F : Figures) (μ : List ℤ) (count : ℕ) (some : stateOf s ≡ holds F μ count)",
+        "(f : Bytes) (μ : List ℤ) (count : ℕ) (open-file : HoldsFile s f μ count)",
+    ),
+    "desk/Pinned": (
+        "(s t : Held)",
+        "(file : Bytes) (r : Refusal) (call : Opens s file r t)",
+        "(n : ℕ) (r : Swept) (call : Sweeps s n r t)",
+        "(s : Held) (lent : Bytes)",
+        "(r : Judged) (call : Judges s lent r)",
+        "(size : ℕ → ℕ) (text : Text) (r : Refusal) (after : Bytes) (call : Writes size text s lent r after)",
+        "(F : Figures) (μ : List ℤ) (count : ℕ) (some : stateOf s ≡ holds F μ count) (p : passes F (part μ) ≡ true)",
+        "(s : Held) (r : System) (call : Shows s r)",
+        "(F : Figures) (μ : List ℤ) (count : ℕ) (some : stateOf s ≡ holds F μ count)",
+        "(f : Bytes) (μ : List ℤ) (count : ℕ) (open-file : HoldsFile s f μ count)",
+        "(file : Bytes) (channel year : ℕ) (r : RowShown) (call : ShowsRow file channel year r)",
+        "(f : Bytes) (s : Held) (μ : List ℤ) (count : ℕ) (open-file : HoldsFile s f μ count)",
+        "(mean : Bytes) (r : Judged) (call : Judges s mean r)",
+        "(n : ℕ) (r : Swept) (t : Held) (call : Sweeps s n r t) (ν : List ℤ)",
+    ),
+}
