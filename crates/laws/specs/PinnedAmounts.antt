@@ -24,6 +24,7 @@ use Rattle.laws.specs.LargerAmounts.{fileCheck-is, amounts-kept, same-bu
 use Rattle.laws.specs.FileLimits.{logarithm-limit, x-limit, z-limit, y-limit, x-sum-fits, z-sum-fits}
 use Rattle.laws.specs.FileLimits.{phi-firsts, psi-firsts, ratios-fit, right-hand-fits, residue-fits, numerator-fits}
 
+-- the amounts that number 9 calls good
 pub amount-taken : (a : ℕ) → (goodAmount a ≡ true) ↔ ((1 ≤ a) × (a ≤ 17592186044416))
 amount-taken a = (
   λ e. let w = within-yes 1 (2 ^ 44) a (rw e tt) in (w .from, w .to),
