@@ -1,12 +1,56 @@
 """What definitions and pins say, to the letter. `test_promises` compares it; a bar stands before whatever is in no module, and at the end.
 
-Of the definitions: how a logarithm is found, the observations, and what 1 to 10 let through, since a mistake that definition and code share
-would be proved. Of the pins: what is said of logarithms, of amounts, of files without a prior, of number 16 and of the numbers that there
-are, which no contract has; and of each file of pins, what its modules suppose, since one that supposes too much says nothing.
+Of the definitions: how the fields of a file are read, how a logarithm is found, the observations, and the checks 1 to 10, since a mistake
+that definition and code share would be proved. Of the pins: what is said of logarithms, of amounts, of files without a prior, of number
+16 and of the numbers that there are, which no contract has; and of each file of pins, what its modules suppose, since one that supposes
+too much says nothing.
 """
 
 TO_THE_LETTER = {
+    "definitions/Words": (
+        "| abbrev pub within : ℕ → ℕ → ℕ → Bool | within lo hi v = leb lo v && leb v hi |",
+    ),
+    "definitions/Layout": (
+        "| abbrev pub Bytes : Type 0 | Bytes = List ℕ "
+        "| unfoldable pub bigEndian : ℕ → Bytes → ℕ | bigEndian a [] = a | bigEndian a (x ∷ xs) = bigEndian (a * 256 + x) xs "
+        "| unfoldable pub unsigned : ℕ → ℕ → Bytes → ℕ | unsigned width at s = bigEndian 0 (take width (drop at s)) "
+        "| unfoldable pub twosComplement : ℕ → ℤ | twosComplement v = cond (ltb v (2 ^ 31)) (pos v) (pos v -ℤ pos (2 ^ 32)) "
+        "| abbrev pub signed : ℕ → Bytes → ℤ | signed at s = twosComplement (unsigned 4 at s) "
+        "| abbrev pub lengthWord : Bytes → ℕ | lengthWord s = unsigned 4 0 s "
+        "| abbrev pub version : Bytes → ℕ | version s = unsigned 1 4 s "
+        "| abbrev pub lastYear : Bytes → ℕ | lastYear s = unsigned 1 5 s "
+        "| abbrev pub closeness : Bytes → ℕ | closeness s = unsigned 4 6 s "
+        "| abbrev pub parts : ℕ → ℕ | parts J = 2 * J + 1 "
+        "| abbrev pub psiIndex : ℕ → ℕ → ℕ | psiIndex J j = J + 1 + j "
+        "| abbrev pub varianceAt : ℕ → ℕ | varianceAt k = 10 + 8 * k "
+        "| abbrev pub priorMeanAt : ℕ → ℕ → ℕ | priorMeanAt J k = 10 + 8 * parts J + 12 * k "
+        "| abbrev pub priorVarianceAt : ℕ → ℕ → ℕ | priorVarianceAt J k = priorMeanAt J k + 4 "
+        "| unfoldable pub rowStart : ℕ → ℕ → ℕ | rowStart J i = total i (λ r. J + 1 - r) "
+        "| abbrev pub cells : ℕ → ℕ | cells J = (J + 1) * (J + 2) / 2 "
+        "| abbrev pub amountAt : ℕ → ℕ → ℕ | amountAt J c = 10 + 20 * parts J + 8 * c "
+        "| abbrev pub paidAt : ℕ → ℕ → ℕ → ℕ | paidAt J i j = amountAt J (rowStart J i + j) "
+        "| abbrev pub incurredAt : ℕ → ℕ → ℕ → ℕ | incurredAt J i j = amountAt J (cells J + (rowStart J i + j)) "
+        "| abbrev pub fileLength : ℕ → ℕ | fileLength J = 10 + 20 * parts J + 8 * (J + 1) * (J + 2) "
+        "| abbrev pub varianceOf : Bytes → ℕ → ℕ | varianceOf s k = unsigned 8 (varianceAt k) s "
+        "| abbrev pub priorMean : Bytes → ℕ → ℤ | priorMean s k = signed (priorMeanAt (lastYear s) k) s "
+        "| abbrev pub priorVariance : Bytes → ℕ → ℕ | priorVariance s k = unsigned 8 (priorVarianceAt (lastYear s) k) s "
+        "| abbrev pub amount : Bytes → ℕ → ℕ | amount s c = unsigned 8 (amountAt (lastYear s) c) s "
+        "| abbrev pub paid : Bytes → ℕ → ℕ → ℕ | paid s i j = unsigned 8 (paidAt (lastYear s) i j) s "
+        "| abbrev pub incurred : Bytes → ℕ → ℕ → ℕ | incurred s i j = unsigned 8 (incurredAt (lastYear s) i j) s "
+        "| abbrev pub rowAt : ℕ → ℕ → ℕ → ℕ | rowAt J channel year = amountAt J (channel * cells J + rowStart J year) "
+        "| abbrev pub rowLength : ℕ → ℕ → ℕ | rowLength J year = 8 * (J + 1 - year) "
+        "| abbrev pub rowBytes : Bytes → ℕ → ℕ → Bytes | rowBytes s channel year = take (rowLength (lastYear s) year) (drop (rowAt "
+        "(lastYear s) channel year) s) |",
+    ),
     "definitions/Refusals": (
+        "| pub data Check : Type 0 where clear : Check refuses : (number place : ℕ) → Check "
+        "| abbrev pub unless : Bool → ℕ → ℕ → Check | unless true number place = clear | unless false number place = refuses number "
+        "place "
+        "| infixr 20 _then_ "
+        "| abbrev pub _then_ : Check → Check → Check | clear then next = next | refuses number place then next = refuses number place "
+        "| abbrev pub isClear : Check → Bool | isClear clear = true | isClear (refuses number place) = false "
+        "| unfoldable pub fields : (ℕ → Bool) → ℕ → (ℕ → ℕ) → ℕ → ℕ → Check | fields good number placeOf i zero = clear | fields good "
+        "number placeOf i (suc n) = unless (good i) number (placeOf i) then fields good number placeOf (suc i) n |",
         "| abbrev pub yearLimit : ℕ | yearLimit = 15 "
         "| abbrev pub closenessLimit : ℕ | closenessLimit = 65536 "
         "| abbrev pub amountLimit : ℕ | amountLimit = 2 ^ 44 "

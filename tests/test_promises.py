@@ -51,44 +51,50 @@ CONTRACTS = {
     "board": ("take (r .end) (r .bytes) ≡ boardPage (now (given .entry))", "definitions/Programs"),
 }
 
+# In which no letter counts.
+STRING = re.compile(r'"(?:[^"\\]|\\.)*"')
+
 # Of a program besides, that the end of what it prints is inside the bytes.
 PRINTING = {"list", "board"}
 INSIDE = " ensures { λ r. ⌜ (r .end ≤ length (r .bytes)) × (r .end ≡ length (take (r .end) (r .bytes))) ⌝ }"
 
-# What is drawn once more from contracts and laws, so that none can be weakened unseen. Nothing uses it, so each is expected here.
+# What is drawn once more from contracts and laws, so that none can be weakened unseen. Nothing uses it, so each is expected here, with a
+# bracket around whatever stands in a module: what a module supposes is supposed of all that stands in it.
 PINNED = {
     "laws/Pinned":
-        "Each Worth nearly-least near strictly-least worth Near room limits m u some exact half rounded at-the-bound near-passes "
-        "Machine opens judges judges-alone sweeps reads reads-alone pages pages-alone shows tells closes machine in-table same-outcomes "
-        "row-empty loss-around",
+        "( Each Worth nearly-least near strictly-least worth Near room limits m u some exact half rounded ( at-the-bound near-passes ) "
+        ") ( Machine opens judges judges-alone sweeps reads reads-alone pages pages-alone shows tells closes machine ) in-table "
+        "same-outcomes row-empty loss-around",
     "laws/PinnedAmounts":
-        "amount-taken upTo up-to-2^44 as-before opened-as-before row-as-before same-to-2^40 logarithm-to paid-step-to incurred-step-to "
-        "last-ratio-to paid-sum-to incurred-sum-to own-side-of-phi-to own-side-of-psi-to ratios-to right-hand-to residue-to divided-to",
+        "amount-taken ( upTo up-to-2^44 ( as-before opened-as-before row-as-before ) same-to-2^40 ( logarithm-to paid-step-to "
+        "incurred-step-to last-ratio-to paid-sum-to incurred-sum-to own-side-of-phi-to own-side-of-psi-to ratios-to right-hand-to "
+        "residue-to divided-to ) )",
     "laws/PinnedLogarithms": "logarithm-bounded logarithm-nearest larger-logarithm one-tick-at-most largest-logarithm",
-    "laws/PinnedPage": "page-bytes name-on-page index-on-page ticks-on-page weight-on-page spaces-on-page never-shared",
+    "laws/PinnedPage": "( page-bytes ( name-on-page index-on-page ticks-on-page weight-on-page spaces-on-page ) ) never-shared",
     "laws/PinnedPriors":
-        "prior-variance-taken accepted-still opened-still row-still same-with-priors phi-alone psi-alone phi-owned psi-owned",
+        "prior-variance-taken ( ( accepted-still opened-still row-still ) same-with-priors phi-alone psi-alone phi-owned psi-owned )",
     "laws/Number16":
-        "oneToTen accepted-exactly positive check16 zero-refused no-zero-clear refuses-no-bytes openWith16 alike-without-16 never-16",
-    "row_starts/Pinned": "sixteen cells-counted none-counted",
-    "holding/Pinned": "open-file reached-open",
+        "( oneToTen accepted-exactly positive check16 zero-refused no-zero-clear ) refuses-no-bytes ( openWith16 alike-without-16 "
+        "never-16 )",
+    "row_starts/Pinned": "( sixteen cells-counted none-counted )",
+    "holding/Pinned": "( open-file reached-open )",
     "opening/Pinned": "open-refused opened-holds as-with-16",
-    "judging/Pinned": "judge-worth judge-rounded",
-    "sweeping/Pinned": "sweep-worth sweep-rounded sweep-refused",
-    "writing/Pinned": "write-worth",
+    "judging/Pinned": "( judge-worth judge-rounded )",
+    "sweeping/Pinned": "( sweep-worth sweep-rounded ) sweep-refused",
+    "writing/Pinned": "( write-worth )",
     "showing/Pinned":
-        "none-shown shown-numbers shown-own shown-entry shown-right-hand numbers-of-file own-of-file entry-of-file "
-        "right-hand-of-file",
+        "( none-shown ( shown-numbers shown-own shown-entry shown-right-hand ) ( numbers-of-file own-of-file entry-of-file "
+        "right-hand-of-file ) )",
     "session/Pinned": "held-whole",
     "telling/Pinned":
         "Pinned opened-file refused-file written-mean passed-mean failing-mean refused-record settled-mean going-mean refused-sweeps "
         "shown-row row-of-F refused-row shown-system refused-system pinned",
     "desk/Pinned":
-        "open-told open-state open-refused open-numbered sweep-told sweep-state sweep-refused sweep-numbered closed judge-told "
-        "judge-numbered write-told write-buffer write-numbered page-closed read-record page-written page-short none-shown "
-        "figures-numbered shown-numbers shown-own shown-entry shown-right-hand numbers-of-file own-of-file entry-of-file "
-        "right-hand-of-file row-told row-shows row-inside row-empty row-numbered judge-worth judge-rounded sweep-worth sweep-rounded "
-        "write-worth",
+        "( ( open-told open-state open-refused open-numbered ) ( sweep-told sweep-state sweep-refused sweep-numbered ) closed ) ( ( "
+        "judge-told judge-numbered ) ( write-told write-buffer write-numbered ) page-closed ( read-record page-written page-short ) ) ( "
+        "none-shown figures-numbered ( shown-numbers shown-own shown-entry shown-right-hand ) ( numbers-of-file own-of-file "
+        "entry-of-file right-hand-of-file ) ) ( row-told row-shows row-inside row-empty row-numbered ) ( ( judge-worth judge-rounded ) "
+        "( sweep-worth sweep-rounded ) write-worth )",
 }
 
 # The examples that document 01 marks with a star ("Figures to agree on").
@@ -117,6 +123,18 @@ OF_THE_PAGE = {
 }
 
 
+def outline(text: str) -> list[str]:
+    """What is promised, in its order, with a bracket where a module begins and where it ends."""
+    told, opened = [], []
+    for indent, module, name in re.findall(r"^( *)(?:(module) _|(?:abbrev )?pub (?:record )?(\S+))", text, re.MULTILINE):
+        while opened and len(indent) <= opened[-1]:
+            told += ")"
+            opened.pop()
+        told += ["("] if module else [name]
+        opened += [len(indent)] if module else []
+    return told + [")"] * len(opened)
+
+
 class Promises(unittest.TestCase):
     def test_contracts_at_the_border(self) -> None:
         """Each stands alone in its contract, with nothing before it that a call would have to meet."""
@@ -131,12 +149,11 @@ class Promises(unittest.TestCase):
 
     def test_what_is_pinned(self) -> None:
         for file, names in PINNED.items():
-            text = text_of("crates/{}/specs/{}.antt".format(*file.split("/")))
-            self.assertEqual(re.findall(r"^ *(?:abbrev )?pub (?:record )?(\S+)", text, re.MULTILINE), names.split(), file)
+            self.assertEqual(outline(text_of("crates/{}/specs/{}.antt".format(*file.split("/")))), names.split(), file)
 
     def test_what_is_said_to_the_letter(self) -> None:
         for file, said in TO_THE_LETTER.items():
-            text = without_comments(ROOT / "crates/{}/specs/{}.antt".format(*file.split("/")))
+            text = STRING.sub('""', without_comments(ROOT / "crates/{}/specs/{}.antt".format(*file.split("/"))))
             lines = " ".join(re.sub(r"\n(?=\S)|$", " | ", text).split())  # with a bar before whatever stands in no module, and at the end
             for words in said:
                 self.assertIn(words, lines)

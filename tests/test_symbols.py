@@ -1,5 +1,5 @@
 """Symbols mean what a reader takes them to mean, in what must be believed and in what is pinned: each operator and each name of the kit is
-the kit's, each name of a definition or of a sum is that one's, and no text hides in a comment.
+the kit's, each name of a definition or of a sum is that one's, and no text hides in a comment or in a string.
 
 A file has such a name by a `use` line that says it, from the one module that it is of. The kit then refuses a declaration of that name, and
 an operator without a fixity. What would bring a name unsaid is refused here, and so are fields and variables of that name.
@@ -53,6 +53,9 @@ OF_SWEEPS = set(
     "definitions/Machine definitions/Programs definitions/Sweep desk/Calls holding/Pinned holding/State judging/Judges laws/Number16 "
     "session/Pinned session/Value showing/Shows sweeping/Sweeps telling/Told writing/Writes".split()
 )
+
+# Files that have strings.
+OF_TEXTS = {"definitions/JointTable", "definitions/Programs", "definitions/Text", "laws/PinnedPage"}
 
 # The kit's names for an option. Here `some` is a field, and `none` what C is told where nothing is refused.
 OF_AN_OPTION = {"some", "none"}
@@ -141,6 +144,10 @@ class Symbols(unittest.TestCase):
         for ending, begin in ((".antt", "{-"), (".rt", "/*")):
             self.assertEqual([name for name in sources(ending) if begin in text_of(name)], [])
         self.assertEqual([name for name in said() if re.search(r"(?<=[^\s-])--", text_of(name))], [])
+
+    def test_no_strings(self) -> None:
+        """But where a text is printed: what is compared to the letter could stand in one, and so could two dashes."""
+        self.assertEqual({file_at(name) for name in said() if '"' in without_comments(ROOT / name)}, OF_TEXTS)
 
     def test_operators(self) -> None:
         kit = {operator: module for module, operators in OF_THE_KIT.items() for operator in operators.split()}
