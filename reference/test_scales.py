@@ -102,7 +102,7 @@ class Logarithm(unittest.TestCase):
 class Rounding(unittest.TestCase):
     def test_the_power_is_between(self) -> None:
         """Of few bits, so that much is cut off."""
-        for amount in (3, 5, 7, 1_000_003, (1 << 44) - 1):
+        for amount in (3, 5, 7, 1_000_003, (1 << 40) - 1, (1 << 44) - 1):
             low, high, exponent = power_bounds(amount, 10, bits=20)
             self.assertLess(low << exponent, amount**1_024)
             self.assertLess(amount**1_024, high << exponent)
@@ -111,7 +111,7 @@ class Rounding(unittest.TestCase):
         """By the natural logarithms of the standard library, to 40 figures."""
         with localcontext() as context:
             context.prec = 40
-            for amount in (2, 3, 5, 2_411, 1_000_003, (1 << 44) - 1, 1 << 44):
+            for amount in (2, 3, 5, 2_411, 1_000_003, (1 << 40) - 1, 1 << 40, (1 << 44) - 1, 1 << 44):
                 ticks = Fraction(T * (Decimal(amount).ln() / Decimal(2).ln()))
                 for bits in (POWER_BITS, 50):  # of so few the ends are several bits apart
                     low, high = exact_ticks(amount, bits)

@@ -130,7 +130,7 @@ class Examples(unittest.TestCase):
         self.assert_said("From amounts to the loss", said)
 
     def test_how_a_logarithm_is_found(self) -> None:
-        self.assertEqual((SQUARINGS, half_ticks(1 << 44)), (21, 2 * 44 * T))
+        self.assertEqual((SQUARINGS, half_ticks(1 << 40), half_ticks(1 << 44)), (21, 2 * 40 * T, 2 * 44 * T))
         for said in (
             f"Then {SQUARINGS} times: if u² ≥ 2^63, note the bit 1",
             f"Let L' be 2h·T plus the number that the {SQUARINGS} bits spell, first bit highest:", "Then log a is floor((L' + 1) / 2),",

@@ -66,7 +66,10 @@ class Made(unittest.TestCase):
     def test_logarithms(self) -> None:
         """64 times that of an amount stands in a right-hand side twice, then that less 64 times the next one's."""
         printed = self.made["calls/scenes"].printed.decode().splitlines()
-        for ticks, next_ticks in ((0, 1_048_576), (1_048_576, 1_661_954), (1_661_954, 2_434_718), (46_137_344, 0)):
+        # 1, 2, 3, 2^40 and 2^44; the next ones are 2, 3, 5, 2^41 - 1, which has the logarithm of 2^41, and 1.
+        for ticks, next_ticks in (
+            (0, 1_048_576), (1_048_576, 1_661_954), (1_661_954, 2_434_718), (41_943_040, 42_991_616), (46_137_344, 0),
+        ):
             self.assertIn(f"right {64 * ticks} {64 * ticks} {64 * (ticks - next_ticks)}", printed)
 
     def test_no_file_is_kept_for_two_contents(self) -> None:
