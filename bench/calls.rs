@@ -6,7 +6,7 @@
 
 mod safe_desk;
 
-use safe_desk::{Figures, Judgement, Session, Sweeping, PARTS};
+use safe_desk::{Figures, Judgement, Session, Sweeping, PARTS, TICKS, WEIGHTS};
 use std::hint::black_box;
 use std::process::{Command, Stdio};
 use std::time::Instant;
@@ -24,6 +24,9 @@ struct Held {
     matrix: Matrix,
     right_hand: Vector,
     mean: Vector,
+    ticks: [i64; TICKS],
+    weights: [u64; WEIGHTS],
+    variances: Weights,
 }
 
 #[repr(C)]
@@ -62,7 +65,7 @@ struct Shown {
 extern "C" {
     fn desk_open_lent(
         held: &mut [u64; 3], own: &mut Weights, matrix: &mut Matrix, right_hand: &mut Vector, mean: &mut Vector,
-        file: *const u8, length: usize,
+        ticks: &mut [i64; TICKS], weights: &mut [u64; WEIGHTS], variances: &mut Weights, file: *const u8, length: usize,
     ) -> Refusal;
     fn desk_judge_lent(
         held: &[u64; 3], own: &Weights, matrix: &Matrix, right_hand: &Vector, mean: &Vector, record: *const u8, length: usize,
@@ -89,12 +92,21 @@ const DONE: Refusal = Refusal { number: 0, place: 0 };
 
 impl Held {
     fn empty() -> Self {
-        Held { held: [0; 3], own: [0; PARTS], matrix: [0; PARTS * PARTS], right_hand: [0; PARTS], mean: [0; PARTS] }
+        Held {
+            held: [0; 3],
+            own: [0; PARTS],
+            matrix: [0; PARTS * PARTS],
+            right_hand: [0; PARTS],
+            mean: [0; PARTS],
+            ticks: [0; TICKS],
+            weights: [0; WEIGHTS],
+            variances: [0; PARTS],
+        }
     }
     fn open(&mut self, file: &[u8]) -> Refusal {
-        // SAFETY: the pointer is the slice's, valid for its length; the arrays are five different fields.
-        let Held { held, own, matrix, right_hand, mean } = self;
-        unsafe { desk_open_lent(held, own, matrix, right_hand, mean, file.as_ptr(), file.len()) }
+        // SAFETY: the pointer is the slice's, valid for its length; the arrays are eight different fields.
+        let Held { held, own, matrix, right_hand, mean, ticks, weights, variances } = self;
+        unsafe { desk_open_lent(held, own, matrix, right_hand, mean, ticks, weights, variances, file.as_ptr(), file.len()) }
     }
     fn judge(&self, record: &[u8]) -> Told {
         // SAFETY: as above.

@@ -5,17 +5,20 @@
 
 use std::io::Write;
 
-pub const PARTS: usize = 31;
-const PAGE_LINE: usize = 28;
-const TICKS: i64 = 1 << 20;
-const PART_LIMIT: i64 = 1 << 26;
-const SWEEP_LIMIT: u64 = 4096;
+#[path = "safe_file.rs"]
+mod safe_file;
 
-#[derive(Clone, Copy, Debug, PartialEq, Eq)]
-pub struct Refusal {
-    pub number: u64,
-    pub place: usize,
-}
+pub use safe_file::{logarithm, row, Refusal};
+use safe_file::{check, refuse, signed_4, unsigned, weight, Layout, PART_LIMIT};
+
+pub const PARTS: usize = 31;
+/// Where the prior means stand behind the logarithms.
+const PRIOR_MEANS: usize = 272;
+pub const TICKS: usize = PRIOR_MEANS + PARTS;
+/// Of the parts' observations, of their priors, of the ratios.
+pub const WEIGHTS: usize = 2 * PARTS + 15;
+const PAGE_LINE: usize = 28;
+const SWEEP_LIMIT: u64 = 4096;
 
 #[derive(Clone, Copy, Debug, PartialEq, Eq)]
 pub enum Judgement {
@@ -39,129 +42,6 @@ pub struct Figures {
     pub right_hand: [i64; PARTS],
 }
 
-fn refuse<T>(number: u64, place: usize) -> Result<T, Refusal> {
-    Err(Refusal { number, place })
-}
-
-fn unsigned<const N: usize>(bytes: &[u8], at: usize) -> u64 {
-    bytes[at..at + N].iter().fold(0, |number, &byte| number << 8 | u64::from(byte))
-}
-
-fn signed_4(bytes: &[u8], at: usize) -> i64 {
-    i64::from(unsigned::<4>(bytes, at) as u32 as i32)
-}
-
-/// The specification's logarithm. The compiler makes no jump of its branch.
-pub fn logarithm(amount: u64) -> i64 {
-    let h = 63 - amount.leading_zeros();
-    let mut y = if h <= 31 { amount << (31 - h) } else { amount >> (h - 31) };
-    let mut bits = 0;
-    for _ in 0..21 {
-        let square = y * y;
-        if square >= 1 << 63 {
-            bits = 2 * bits + 1;
-            y = square >> 32;
-        } else {
-            bits *= 2;
-            y = square >> 31;
-        }
-    }
-    (2 * i64::from(h) * TICKS + bits + 1) >> 1
-}
-
-/// A variance of 0 stands for no prior.
-fn weight(variance: u64) -> u64 {
-    ((1 << 47) + variance).checked_div(2 * variance).unwrap_or(0)
-}
-
-/// Where the fields of a file of J stand.
-struct Layout {
-    last: usize,
-    parts: usize,
-    priors: usize,
-    amounts: usize,
-    cells: usize,
-}
-
-impl Layout {
-    fn new(last: usize) -> Self {
-        let parts = 2 * last + 1;
-        Layout { last, parts, priors: 10 + 8 * parts, amounts: 10 + 20 * parts, cells: (last + 1) * (last + 2) / 2 }
-    }
-    fn variance(&self, k: usize) -> usize {
-        10 + 8 * k
-    }
-    fn prior_mean(&self, k: usize) -> usize {
-        self.priors + 12 * k
-    }
-    fn prior_variance(&self, k: usize) -> usize {
-        self.prior_mean(k) + 4
-    }
-    fn amount(&self, c: usize) -> usize {
-        self.amounts + 8 * c
-    }
-}
-
-fn check(file: &[u8]) -> Result<Layout, Refusal> {
-    if file.len() < 10 || unsigned::<4>(file, 0) != file.len() as u64 {
-        return refuse(1, 0);
-    }
-    if file[4] != 1 {
-        return refuse(2, 4);
-    }
-    let last = usize::from(file[5]);
-    if !(1..=15).contains(&last) {
-        return refuse(3, 5);
-    }
-    let at = Layout::new(last);
-    if file.len() != at.amount(2 * at.cells) {
-        return refuse(4, 0);
-    }
-    if !(1..=65536).contains(&unsigned::<4>(file, 6)) {
-        return refuse(5, 6);
-    }
-    for k in 0..at.parts {
-        if !(1 << 18..=1 << 40).contains(&unsigned::<8>(file, at.variance(k))) {
-            return refuse(6, at.variance(k));
-        }
-    }
-    for k in 0..at.parts {
-        let variance = unsigned::<8>(file, at.prior_variance(k));
-        if variance != 0 && !(1 << 18..=1 << 46).contains(&variance) {
-            return refuse(7, at.prior_variance(k));
-        }
-    }
-    for k in 0..at.parts {
-        if signed_4(file, at.prior_mean(k)).abs() > PART_LIMIT {
-            return refuse(8, at.prior_mean(k));
-        }
-    }
-    for c in 0..2 * at.cells {
-        if !(1..=1 << 44).contains(&unsigned::<8>(file, at.amount(c))) {
-            return refuse(9, at.amount(c));
-        }
-    }
-    if unsigned::<8>(file, at.amount(last)) != unsigned::<8>(file, at.amount(at.cells + last)) {
-        return refuse(10, at.amount(last));
-    }
-    Ok(at)
-}
-
-/// The amounts of a year in the paid (0) or the incurred (1) block of a file.
-#[inline(never)]
-pub fn row(file: &[u8], channel: usize, year: usize) -> Result<&[u8], Refusal> {
-    let at = check(file)?;
-    if channel > 1 {
-        return refuse(14, 0);
-    }
-    if year > at.last {
-        return refuse(15, 0);
-    }
-    let before = year * (2 * at.last + 3 - year) / 2;
-    let start = at.amount(channel * at.cells + before);
-    Ok(&file[start..start + 8 * (at.last + 1 - year)])
-}
-
 pub struct Session {
     last: usize,
     closeness: u64,
@@ -170,6 +50,9 @@ pub struct Session {
     matrix: [i64; PARTS * PARTS],
     right_hand: [i64; PARTS],
     mean: [i64; PARTS],
+    ticks: [i64; TICKS],
+    weights: [u64; WEIGHTS],
+    variances: [u64; PARTS],
 }
 
 impl Session {
@@ -182,6 +65,9 @@ impl Session {
             matrix: [0; PARTS * PARTS],
             right_hand: [0; PARTS],
             mean: [0; PARTS],
+            ticks: [0; TICKS],
+            weights: [0; WEIGHTS],
+            variances: [0; PARTS],
         }
     }
 
@@ -199,44 +85,51 @@ impl Session {
             return refuse(22, 0);
         }
         let at = check(file)?;
-        let last = at.last;
-        let mut logs = [0; 272];
-        for (c, log) in logs.iter_mut().enumerate().take(2 * at.cells) {
-            *log = logarithm(unsigned::<8>(file, at.amount(c)));
-        }
-        self.set_figures(file, &at, &logs);
-        self.last = last;
+        self.observe(file, &at);
+        self.set_figures(&at);
+        self.mean[..at.parts].copy_from_slice(&self.ticks[PRIOR_MEANS..PRIOR_MEANS + at.parts]);
+        self.last = at.last;
         self.closeness = unsigned::<4>(file, 6);
         self.total = 0;
         Ok(())
     }
 
-    fn set_figures(&mut self, file: &[u8], at: &Layout, logs: &[i64; 272]) {
+    fn observe(&mut self, file: &[u8], at: &Layout) {
+        for (c, log) in self.ticks.iter_mut().enumerate().take(2 * at.cells) {
+            *log = logarithm(unsigned::<8>(file, at.amount(c)));
+        }
+        for k in 0..at.parts {
+            self.variances[k] = unsigned::<8>(file, at.variance(k));
+            self.weights[k] = weight(self.variances[k]);
+            self.weights[PARTS + k] = weight(unsigned::<8>(file, at.prior_variance(k)));
+            self.ticks[PRIOR_MEANS + k] = signed_4(file, at.prior_mean(k));
+        }
+        let mut variance = 0;
+        for k in (0..at.last).rev() {
+            variance += self.variances[k + 1] + self.variances[at.last + 1 + k];
+            self.weights[2 * PARTS + k] = weight(variance);
+        }
+    }
+
+    fn set_figures(&mut self, at: &Layout) {
         let last = at.last;
         let mut shares = [0i64; 16];
         let mut ratios = [0i64; 16];
-        let mut weights = [0u64; 15];
-        let mut variance = 0;
-        for k in (0..last).rev() {
-            variance += unsigned::<8>(file, at.variance(k + 1)) + unsigned::<8>(file, at.variance(last + 1 + k));
-            weights[k] = weight(variance);
-        }
         let mut cell = at.cells - 1;
         for k in 0..last {
-            shares[k + 1] = shares[k] + weights[k] as i64;
-            ratios[k + 1] = ratios[k] + weights[k] as i64 * (logs[at.cells + cell] - logs[cell]);
+            let weight = self.weights[2 * PARTS + k] as i64;
+            shares[k + 1] = shares[k] + weight;
+            ratios[k + 1] = ratios[k] + weight * (self.ticks[at.cells + cell] - self.ticks[cell]);
             cell -= k + 1;
         }
         let rank = |k: usize| if k <= last { k } else { k - last };
         for k in 0..at.parts {
-            let column = weight(unsigned::<8>(file, at.variance(k)));
-            let prior = weight(unsigned::<8>(file, at.prior_variance(k)));
-            self.mean[k] = signed_4(file, at.prior_mean(k));
+            let (column, prior) = (self.weights[k], self.weights[PARTS + k]);
             let count = if k <= last { last - k + 1 } else { 2 * last + 1 - k };
             self.own[k] = prior + count as u64 * column;
-            let sum = observations(logs, at, k, count);
+            let sum = observations(&self.ticks, at, k, count);
             let shared = if k <= last { ratios[rank(k)] } else { -ratios[rank(k)] };
-            self.right_hand[k] = prior as i64 * self.mean[k] + column as i64 * sum + shared;
+            self.right_hand[k] = prior as i64 * self.ticks[PRIOR_MEANS + k] + column as i64 * sum + shared;
             for l in 0..at.parts {
                 let share = shares[rank(k).min(rank(l))];
                 let entry = if (k <= last) == (l <= last) { share } else { -share };
@@ -399,7 +292,7 @@ impl Session {
     }
 }
 
-fn observations(logs: &[i64; 272], at: &Layout, k: usize, count: usize) -> i64 {
+fn observations(logs: &[i64; TICKS], at: &Layout, k: usize, count: usize) -> i64 {
     let mut cell = match k {
         0 => 0,
         _ if k <= at.last => k - 1,

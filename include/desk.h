@@ -28,9 +28,9 @@
 extern "C" {
 #endif
 
-#define DESK_VERSION "1.7.0"
-#define DESK_VERSION_MAJOR 1
-#define DESK_VERSION_MINOR 7
+#define DESK_VERSION "2.0.0"
+#define DESK_VERSION_MAJOR 2
+#define DESK_VERSION_MINOR 0
 #define DESK_VERSION_PATCH 0
 
 #define DESK_PAID UINT64_C(0) /* the channels of a row */
@@ -40,19 +40,22 @@ extern "C" {
 #define DESK_LONGEST_RECORD 129u        /* a mean record has 5 + 4(2J+1) bytes */
 #define DESK_LONGEST_PAGE 868u          /* a page has 28(2J+1) bytes */
 
-/* A session, of some 8 KB: empty, or an accepted file's figures with a mean and the sweeps run. The fields are the library's; a
- * session may be copied, and the copy is a session of its own. Bytes that no call has left there count as an empty session or
- * as an open one, and are safe in both cases; the guarantee of a passed mean is for sessions that start as DESK_EMPTY. */
+/* A session, of some 12 KB: empty, or an accepted file's observations and figures with a mean and the sweeps run. The fields are the
+ * library's; a session may be copied, and the copy is a session of its own. Bytes that no call has left there count as an empty
+ * session or as an open one, and are safe in both cases; the guarantee of a passed mean is for sessions that start as DESK_EMPTY. */
 typedef struct desk_session {
     uint64_t held[3]; /* J (0 while nothing is open), closeness, sweeps run since open */
     uint64_t own[31];
     int64_t matrix[961];
     int64_t right_hand[31];
     int64_t mean[31];
+    int64_t ticks[303];     /* of the file: the logarithms of its amounts, then its prior means */
+    uint64_t weights[77];   /* of its observations, of its priors, of its ratios */
+    uint64_t variances[31]; /* sigma squared, then tau squared */
 } desk_session;
 
 /* The empty session, where one is declared; and as a value, to be assigned or handed on. */
-#define DESK_EMPTY {{0}, {0}, {0}, {0}, {0}}
+#define DESK_EMPTY {{0}, {0}, {0}, {0}, {0}, {0}, {0}, {0}}
 #ifdef __cplusplus
 #define DESK_EMPTY_SESSION (desk_session{})
 #else
@@ -98,21 +101,9 @@ typedef struct desk_system {
     int64_t right_hand[31];
 } desk_system;
 
-/* How many numbers each array of a session holds, and how many bytes the longest file and the longest mean record have. Its fields
- * stay while the version's first number does: a longer struct would be written behind that of a program with an older header. */
-typedef struct desk_counts {
-    uint64_t held;
-    uint64_t own;
-    uint64_t matrix;
-    uint64_t right_hand;
-    uint64_t mean;
-    uint64_t longest_file;
-    uint64_t longest_record;
-} desk_counts;
-
 /* What the library exports. The functions behind them lend it a session's fields one by one. */
 desk_refusal desk_open_lent(uint64_t held[3], uint64_t own[31], int64_t matrix[961], int64_t right_hand[31], int64_t mean[31],
-                            const uint8_t *file, size_t length);
+                            int64_t ticks[303], uint64_t weights[77], uint64_t variances[31], const uint8_t *file, size_t length);
 desk_judgement desk_judge_lent(const uint64_t held[3], const uint64_t own[31], const int64_t matrix[961],
                                const int64_t right_hand[31], const int64_t mean[31], const uint8_t *lent, size_t length);
 desk_sweeping desk_sweep_lent(uint64_t held[3], const uint64_t own[31], const int64_t matrix[961], const int64_t right_hand[31],
@@ -125,10 +116,10 @@ desk_system desk_figures_lent(const uint64_t held[3], const uint64_t own[31], co
                               const int64_t right_hand[31], const int64_t mean[31]);
 void desk_close_lent(uint64_t held[3]);
 
-/* Opens a file: the session then holds its figures, the prior means as mean and 0 sweeps.
+/* Opens a file: the session then holds its observations and figures, the prior means as mean and 0 sweeps.
  * May be refused with 22, then 1 to 10. */
 static inline desk_refusal desk_open(desk_session *s, const uint8_t *file, size_t length) {
-    return desk_open_lent(s->held, s->own, s->matrix, s->right_hand, s->mean, file, length);
+    return desk_open_lent(s->held, s->own, s->matrix, s->right_hand, s->mean, s->ticks, s->weights, s->variances, file, length);
 }
 
 /* Judges a mean record, whoever wrote it: passed, or the first part that fails. The session is untouched.
@@ -197,9 +188,10 @@ static inline const char *desk_refusal_text(uint64_t number) {
     }
 }
 
-/* The sizes that the library was built with. Whoever declares its calls elsewhere than here compares them before the first
- * call: a session that is declared too small would be written behind. */
-desk_counts desk_sizes(void);
+/* How many numbers an array of a session has in this library, by its place among the fields of desk_session, from 0 on; behind the
+ * last one 0. Whoever declares the calls elsewhere than here compares them before the first call: a session that is declared too
+ * small would be written behind. */
+uint64_t desk_size(uint64_t array);
 
 #ifdef __cplusplus
 }

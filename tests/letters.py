@@ -1,9 +1,10 @@
 """What definitions and pins say, to the letter. `test_promises` compares it; a bar stands before whatever is in no module, and at the end.
 
-Of the definitions: how the fields of a file are read, how a logarithm is found, the observations, and the checks 1 to 10, since a mistake
-that definition and code share would be proved. Of the pins: what is said of logarithms, of amounts, of files without a prior, of number
-16 and of the numbers that there are, which no contract has; and of each file of pins, what its modules suppose, since one that supposes
-too much says nothing.
+Of the definitions: how the fields of a file are read, how a logarithm is found, the observations and what a session keeps of them, and the
+checks 1 to 10, since a mistake that definition and code share would be proved. Of what a session stands for: its observations. Of the pins:
+what is said of logarithms, of amounts, of files without a prior, of own weights and right-hand sides in document 01's words, of number 16,
+of the numbers that there are and of a session as a whole, which no contract has; and of each file of pins, what its modules suppose, since
+one that supposes too much says nothing.
 """
 
 TO_THE_LETTER = {
@@ -90,6 +91,10 @@ TO_THE_LETTER = {
         "| unfoldable pub logarithm : ℕ → ℕ | logarithm a = (halfTicks a + 1) / 2 |",
     ),
     "definitions/Observations": (
+        "| pub record Chain : Type 0 where pub last : ℕ pub p : ℕ → ℕ → ℕ pub q : ℕ → ℕ → ℕ pub s : ℕ → ℕ pub t : ℕ → ℕ pub g : ℕ → ℕ "
+        "pub x : ℕ → ℕ → ℤ pub z : ℕ → ℕ → ℤ pub y : ℕ → ℤ pub priorΦ : ℕ → ℤ pub priorΨ : ℕ → ℤ "
+        "| abbrev pub σ² : Bytes → ℕ → ℕ | σ² f j = varianceOf f j "
+        "| abbrev pub τ² : Bytes → ℕ → ℕ | τ² f j = varianceOf f (psiIndex (lastYear f) j) "
         "| unfoldable pub ratioVariance : Bytes → ℕ → ℕ | ratioVariance f k = total (lastYear f - k) (λ i. σ² f (k + 1 + i)) + total "
         "(lastYear f - k) (λ i. τ² f (k + i)) "
         "| abbrev pub logOf : ℕ → ℤ | logOf a = pos (logarithm a) "
@@ -99,10 +104,23 @@ TO_THE_LETTER = {
         "j) "
         "| unfoldable pub lastRatio : Bytes → ℕ → ℤ | lastRatio f i = logOf (incurred f i (lastYear f - i)) -ℤ logOf (paid f i "
         "(lastYear f - i)) "
-        "| abbrev pub chainOf : Bytes → Chain | chainOf f = record { last = lastYear f; p = λ j. weight (σ² f j); q = λ j. weight (τ² "
-        "f j); s = λ j. weight (priorVariance f j); t = λ j. weight (priorVariance f (psiIndex (lastYear f) j)); g = λ k. weight "
+        "| abbrev pub chainOf : Bytes → Chain | chainOf f = record { last = lastYear f; p = λ i j. weight (σ² f j); q = λ i j. weight "
+        "(τ² f j); s = λ j. weight (priorVariance f j); t = λ j. weight (priorVariance f (psiIndex (lastYear f) j)); g = λ k. weight "
         "(ratioVariance f k); x = paidStep f; z = incurredStep f; y = lastRatio f; priorΦ = priorMean f; priorΨ = λ j. priorMean f "
         "(psiIndex (lastYear f) j); | }",
+    ),
+    "definitions/Kept": (
+        "| pub record Observed : Type 0 where pub logarithms : List ℤ pub variances : List ℕ pub weights : List ℕ pub priorWeights : "
+        "List ℕ "
+        "pub ratioWeights : List ℕ pub priorMeans : List ℤ "
+        "| abbrev pub observedOf : Bytes → Observed | observedOf f = record { logarithms = tabFrom 0 (2 * cells (lastYear f)) (λ c. logOf "
+        "(amount f c)); variances = tabFrom 0 (parts (lastYear f)) (varianceOf f); weights = tabFrom 0 (parts (lastYear f)) (λ k. weight "
+        "(varianceOf f k)); priorWeights = tabFrom 0 (parts (lastYear f)) (λ k. weight (priorVariance f k)); ratioWeights = tabFrom 0 "
+        "(lastYear f) (λ k. weight (ratioVariance f k)); priorMeans = tabFrom 0 (parts (lastYear f)) (priorMean f); | } "
+        "| pub record Kept : Type 0 where pub figures : Figures pub observed : Observed "
+        "| abbrev pub keptOf : Bytes → Kept | keptOf f = record { figures = figuresOf f; observed = observedOf f } "
+        "| abbrev pub inSession : Keeping Kept | inSession = record { keep = keptOf; figures = λ x. x .figures; priorMeans = λ x. x "
+        ".observed .priorMeans } |",
     ),
     "definitions/JointTable": (
         "| abbrev 2^44-in-8 : Bytes | 2^44-in-8 = 0 ∷ 0 ∷ 16 ∷ 0 ∷ 0 ∷ 0 ∷ 0 ∷ 0 ∷ [] "
@@ -140,21 +158,66 @@ TO_THE_LETTER = {
         "pub zero-refused : (k : ℕ) → k < 2 * lastYear f + 1 → matrix (chainOf f) k k ≡ pos 0 → check16 ≡ refuses 16 0 zero-refused",
         "pub no-zero-clear : ((k : ℕ) → k < 2 * lastYear f + 1 → matrix (chainOf f) k k ≢ pos 0) → check16 ≡ clear no-zero-clear",
         "| pub refuses-no-bytes : check16 [] ≡ refuses 16 0 | unfolding",
-        "| module _ (X : Type 0) (keep : Bytes → X) (figures : X → Figures) where abbrev pub openWith16 : State X → Bytes → Outcome X "
-        "openWith16 empty f = openUnless X keep figures (oneToTen f then check16 f) f "
-        "openWith16 (holds x μ total) f = answers X keep figures (holds x μ total) (refused 22 0) pub alike-without-16",
-        "pub alike-without-16 : (st : State X) (f : Bytes) → openWith16 st f ≡ openCall X keep figures st f unfolding",
-        "pub never-16 : (st : State X) (call : Call) (place : ℕ) → outcome X keep figures st call .answer ≢ refused 16 place never-16",
+        "| module _ (X : Type 0) (K : Keeping X) where abbrev pub openWith16 : State X → Bytes → Outcome X "
+        "openWith16 empty f = openUnless K (oneToTen f then check16 f) f "
+        "openWith16 (holds x μ total) f = answers (holds x μ total) (refused 22 0) pub alike-without-16",
+        "pub alike-without-16 : (st : State X) (f : Bytes) → openWith16 st f ≡ openCall K st f unfolding",
+        "pub never-16 : (st : State X) (call : Call) (place : ℕ) → outcome K st call .answer ≢ refused 16 place never-16",
     ),
     "laws/Pinned": (
-        "| pub in-table : (X : Type 0) (keep : Bytes → X) (figures : X → Figures) (st : State X) (call : Call) (number place : ℕ) "
-        "→ outcome X keep figures st call .answer ≡ refused number place "
+        "| pub in-table : (X : Type 0) (K : Keeping X) (st : State X) (call : Call) (number place : ℕ) "
+        "→ outcome K st call .answer ≡ refused number place "
         "→ ((1 ≤ number) × (number ≤ 15)) ⊎ ((21 ≤ number) × (number ≤ 24)) | in-table",
+        "| pub same-outcomes : (calls : List Call) (st : State Bytes) "
+        "→ outcomes inSession (mapState keptOf st) calls ≡ map (mapOutcome keptOf) (outcomes theFile st calls) | same-outcomes",
     ),
     "opening/Pinned": (
-        "| pub as-with-16 : (s t : Held) (f : Bytes) (r : OpenAnswer) → Opens s f r t "
-        "→ let o : Outcome Figures = openWith16 Figures figuresOf (λ F. F) (stateOf s) f in "
-        "(ofOpen r ≡ o .answer) × (stateOf t ≡ o .state) | as-with-16",
+        "pub opened-keeps : sessionState p t ≡ holds (keptOf f) (tabFrom 0 (parts (lastYear f)) (priorMean f)) 0 opened-keeps",
+        "| pub as-with-16 : (s t : Held) (o p : Observations) (f : Bytes) (r : OpenAnswer) → Opens s o f r t p "
+        "→ let with-16 : Outcome Kept = openWith16 Kept inSession (sessionState o s) f in "
+        "(ofOpen r ≡ with-16 .answer) × (sessionState p t ≡ with-16 .state) | as-with-16",
+    ),
+    "laws/Columns": (
+        "| module _ (f : Bytes) (j : ℕ) where abbrev J : ℕ J = lastYear f abbrev c : Chain c = chainOf f module _ (below : j ≤ J) where "
+        "pub "
+        "own-phi : own c j ≡ weight (priorVariance f j) + (J - j + 1) * weight (σ² f j) unfolding",
+        "pub right-hand-phi : rightHand c j ≡ pos (weight (priorVariance f j)) *ℤ priorMean f j +ℤ pos (weight (σ² f j)) *ℤ sum (J - j + "
+        "1) "
+        "(λ i. paidStep f i j) +ℤ ratiosOfLast c j unfolding",
+        "pub own-psi : own c (psiIndex J j) ≡ weight (priorVariance f (psiIndex J j)) + (J - j) * weight (τ² f j) unfolding",
+        "pub right-hand-psi : rightHand c (psiIndex J j) ≡ pos (weight (priorVariance f (psiIndex J j))) *ℤ priorMean f (psiIndex J j) +ℤ "
+        "pos (weight (τ² f j)) *ℤ sum (J - j) (λ i. incurredStep f i j) -ℤ ratiosOfLast c (j + 1) unfolding",
+    ),
+    "observations/Arrays": (
+        "| abbrev pub broughtWithin : ℕ → ℕ → ℕ → ℕ | broughtWithin lo hi v = max lo (min hi v) "
+        "| unfoldable pub observedIn : ℕ → Observations → Observed | observedIn J o = record { "
+        "logarithms = tabFrom 0 (2 * cells J) (λ c. bringBack (part (o .ticks) c)); "
+        "variances = tabFrom 0 (parts J) (λ k. broughtWithin (2 ^ 18) (2 ^ 40) (at (o .variances) k)); "
+        "weights = tabFrom 0 (parts J) (λ k. broughtWithin 1 (2 ^ 28) (at (o .weights) k)); "
+        "priorWeights = tabFrom 0 (parts J) (λ k. broughtWithin 0 (2 ^ 28) (priorAt (o .weights) k)); "
+        "ratioWeights = tabFrom 0 J (λ d. broughtWithin 0 (2 ^ 27) (ratioAt (o .weights) d)); "
+        "priorMeans = tabFrom 0 (parts J) (λ k. bringBack (meanAt (o .ticks) k)); | } |",
+    ),
+    "holding/State": (
+        "| abbrev pub keptWith : Observations → D.Figures → Kept | keptWith o F = record { figures = F; observed = observedIn (F .last) "
+        "o } "
+        "| abbrev pub sessionState : Observations → Held → State Kept | sessionState o s = mapState (keptWith o) (stateOf s) |",
+    ),
+    "desk/PinnedSession": (
+        "| module _ (o : Observations) (s : Held) where abbrev st : State Kept st = sessionState o s pub opens-all : (p : Observations) "
+        "(t : Held) (file : Bytes) (r : Refusal) → Opens s o file r t p → let x : Outcome Kept = outcome inSession st (open-file file) in "
+        "(r ≡ refusalTold (x .answer)) × (sessionState p t ≡ x .state) unfolding",
+        "pub judges-all : (lent : Bytes) (r : Judged) → Judges s lent r → r ≡ judgeTold (outcome inSession st (judge lent) .answer) "
+        "judges-all",
+        "pub sweeps-all : (t : Held) (n : ℕ) (r : Swept) → Sweeps s n r t → let x : Outcome Kept = outcome inSession st (sweep n) in "
+        "(r ≡ sweepTold (x .answer)) × (sessionState o t ≡ x .state) sweeps-all",
+        "abbrev Written : Refusal → Bytes → Outcome Kept → Type 0 Written r after x = (r ≡ refusalTold (x .answer)) × (after ≡ x .buffer) "
+        "pub reads-all : (lent after : Bytes) (r : Refusal) → Reads s lent r after → Written r after (outcome inSession st (read lent)) "
+        "reads-all",
+        "pub pages-all : (lent after : Bytes) (r : Refusal) → Pages s lent r after → Written r after (outcome inSession st (page lent)) "
+        "pages-all",
+        "pub closes-all : (held : List ℕ) → Closes held → (D : List ℕ) (A b μ : List ℤ) (p : Observations) → sessionState p (heldIn held "
+        "D A b μ) ≡ outcome inSession st close .state unfolding",
     ),
     "laws/PinnedPriors": (
         "| pub prior-variance-taken : (v : ℕ) → (goodPriorVariance v ≡ true) ↔ ((v ≡ 0) ⊎ ((262144 ≤ v) × (v ≤ 70368744177664))) "
@@ -164,8 +227,7 @@ TO_THE_LETTER = {
         "70368744177664 (priorVariance f k)) 7 (priorVarianceAt J) 0 (2 * J + 1) then check8 f then check9 f then check10 f module _ "
         "(was : isClear with-priors ≡ true) where pub accepted-still :",
         "pub accepted-still : accepted f ≡ true accepted-still =",
-        "pub opened-still : (X : Type 0) (keep : Bytes → X) (figures : X → Figures) → openUnless X keep figures with-priors f ≡ "
-        "openCall X keep figures empty f opened-still =",
+        "pub opened-still : (X : Type 0) (K : Keeping X) → openUnless K with-priors f ≡ openCall K empty f opened-still =",
         "pub row-still : (channel year : ℕ) → with-priors then unless (leb channel 1) 14 0 then unless (leb year J) 15 0 ≡ rowCheck f "
         "channel year row-still =",
         "pub same-with-priors : ((k : ℕ) → k < 2 * J + 1 → priorVariance f k ≢ 0) → with-priors ≡ fileCheck f same-with-priors =",
@@ -185,23 +247,24 @@ TO_THE_LETTER = {
         "fields (λ k. within 1 limit (amount f k)) 9 (amountAt J) 0 (2 * cells J) then check10 f pub up-to-2^44 :",
         "pub up-to-2^44 : upTo 17592186044416 ≡ fileCheck f up-to-2^44 =",
         "pub as-before : accepted f ≡ true as-before =",
-        "pub opened-as-before : (X : Type 0) (keep : Bytes → X) (figures : X → Figures) → openUnless X keep figures (upTo "
-        "1099511627776) f ≡ openCall X keep figures empty f opened-as-before =",
+        "pub opened-as-before : (X : Type 0) (K : Keeping X) → openUnless K (upTo 1099511627776) f ≡ openCall K empty f "
+        "opened-as-before =",
         "pub row-as-before : (channel year : ℕ) → upTo 1099511627776 then unless (leb channel 1) 14 0 then unless (leb year J) 15 0 ≡ "
         "rowCheck f channel year row-as-before =",
         "pub same-to-2^40 : ((k : ℕ) → k < 2 * cells J → (amount f k ≤ 1099511627776) ⊎ (17592186044416 < amount f k)) → upTo "
         "1099511627776 ≡ fileCheck f same-to-2^40 =",
-        "module _ (yes-file : accepted f ≡ true) where known : AcceptedFile f known = accepted-file f yes-file pub logarithm-to : (k "
-        ": ℕ) → k < 2 * cells J → logarithm (amount f k) ≤ 46137344 logarithm-to k below =",
+        "module _ (yes-file : accepted f ≡ true) where known : AcceptedFile f known = accepted-file f yes-file bounded : Bounded "
+        "c bounded = file-chain f known .0 pub logarithm-to : (k : ℕ) → k < 2 * cells J → logarithm (amount f k) ≤ 46137344 logarithm-to "
+        "k below =",
         "pub paid-step-to : (i j : ℕ) → i + j ≤ J → natAbs (paidStep f i j) ≤ 46137344 paid-step-to =",
         "pub incurred-step-to : (i j : ℕ) → i + j < J → natAbs (incurredStep f i j) ≤ 46137344 incurred-step-to =",
         "pub last-ratio-to : (i : ℕ) → i ≤ J → natAbs (lastRatio f i) ≤ 46137344 last-ratio-to =",
         "pub paid-sum-to : (j : ℕ) → j ≤ J → natAbs (sum (J - j + 1) (λ i. paidStep f i j)) ≤ 738197504 paid-sum-to =",
         "pub incurred-sum-to : (j : ℕ) → j < J → natAbs (sum (J - j) (λ i. incurredStep f i j)) ≤ 692060160 incurred-sum-to =",
-        "pub own-side-of-phi-to : (j : ℕ) → j ≤ J → natAbs (pos (c .s j) *ℤ c .priorΦ j +ℤ pos (c .p j) *ℤ sum (J - j + 1) (λ i. c .x "
-        "i j)) ≤ 1536 * 2 ^ 47 own-side-of-phi-to =",
-        "pub own-side-of-psi-to : (j : ℕ) → j < J → natAbs (pos (c .t j) *ℤ c .priorΨ j +ℤ pos (c .q j) *ℤ sum (J - j) (λ i. c .z i "
-        "j)) ≤ 1536 * 2 ^ 47 own-side-of-psi-to =",
+        "pub own-side-of-phi-to : (j : ℕ) → j ≤ J → natAbs (pos (c .s j) *ℤ c .priorΦ j +ℤ pos (weight (σ² f j)) *ℤ sum (J - j + "
+        "1) (λ i. c .x i j)) ≤ 1536 * 2 ^ 47 own-side-of-phi-to j below =",
+        "pub own-side-of-psi-to : (j : ℕ) → j < J → natAbs (pos (c .t j) *ℤ c .priorΨ j +ℤ pos (weight (τ² f j)) *ℤ sum (J - j) "
+        "(λ i. c .z i j)) ≤ 1536 * 2 ^ 47 own-side-of-psi-to j below =",
         "pub ratios-to : (m : ℕ) → m ≤ J → natAbs (ratiosOfLast c m) ≤ 660 * 2 ^ 47 ratios-to =",
         "pub right-hand-to : (k : ℕ) → k < 2 * J + 1 → natAbs (rightHand c k) ≤ 2196 * 2 ^ 47 right-hand-to =",
         "pub residue-to : (μ : Vector) → ((l : ℕ) → l < 2 * J + 1 → natAbs (μ l) ≤ 67108864) → (k : ℕ) → k < 2 * J + 1 → natAbs "
@@ -216,7 +279,7 @@ SUPPOSED = {
     "laws/Pinned": (
         "(f : Bytes)",
         "(yes-file : accepted f ≡ true) (μ : Vector)",
-        "(st : State Figures)",
+        "(X : Type 0) (K : Keeping X) (st : State X)",
     ),
     "laws/PinnedAmounts": (
         "(f : Bytes)",
@@ -234,13 +297,27 @@ SUPPOSED = {
     ),
     "laws/Number16": (
         "(f : Bytes)",
-        "(X : Type 0) (keep : Bytes → X) (figures : X → Figures)",
+        "(X : Type 0) (K : Keeping X)",
     ),
     "row_starts/Pinned": (
         "(J : ℕ) (r : List ℕ) (starts : Starts J r)",
     ),
     "holding/Pinned": (
         "(s : Held) (f : Bytes) (μ : List ℤ) (total : ℕ)",
+    ),
+    "laws/Columns": (
+        "(n w : ℕ) (p : ℕ → ℕ) (one : (i : ℕ) → i < n → p i ≡ w)",
+        "(c : Chain)",
+        "(j w : ℕ) (below : j ≤ c .last) (one : (i : ℕ) → i + j ≤ c .last → c .p i j ≡ w)",
+        "(j w : ℕ) (one : (i : ℕ) → i + j < c .last → c .q i j ≡ w)",
+        "(f : Bytes) (j : ℕ)",
+        "(below : j ≤ J)",
+    ),
+    "opening/Pinned": (
+        "(s t : Held) (o p : Observations) (f : Bytes) (none : stateOf s ≡ empty) (call : Opens s o f Opened t p)",
+    ),
+    "desk/PinnedSession": (
+        "(o : Observations) (s : Held)",
     ),
     "judging/Pinned": (
         "(f : Bytes) (s : Held) (μ : List ℤ) (count : ℕ) (open-file : HoldsFile s f μ count) (r : Bytes) {a : JudgeAnswer} (call "
@@ -260,7 +337,7 @@ SUPPOSED = {
     ),
     "desk/Pinned": (
         "(s t : Held)",
-        "(file : Bytes) (r : Refusal) (call : Opens s file r t)",
+        "(o p : Observations) (file : Bytes) (r : Refusal) (call : Opens s o file r t p)",
         "(n : ℕ) (r : Swept) (call : Sweeps s n r t)",
         "(s : Held) (lent : Bytes)",
         "(r : Judged) (call : Judges s lent r)",

@@ -164,7 +164,7 @@ class Limits(unittest.TestCase):
     def test_of_what_is_guaranteed(self) -> None:
         ticks = re.search(r"a doubling has ([\d,]+)\.", README)[1]
         self.assertEqual({value(ticks), reserving_desk.TICKS_PER_DOUBLING}, {value("ticksPerDoubling")})
-        room = re.search(r"^ +pub room : (\d+) ≤ closeness f$", DEFINITIONS, re.MULTILINE)[1]
+        room = re.search(r"^ +pub room : (\d+) ≤ e$", DEFINITIONS, re.MULTILINE)[1]
         for text in (README, SPECIFICATION):
             self.assertEqual(re.findall(r"with e ≥ (\d+),", text), [room])
             self.assertEqual(re.findall(r"Use (?:closeness )?(\d+)\b", text), [room])

@@ -16,18 +16,21 @@ OF_C = f"(heldIn (now (held .entry)) {ARRAYS})"
 OPENED = f"(heldIn (now (held .exit)) {ARRAYS.replace('.entry', '.exit')})"
 BUFFER = "(now (buffer .entry)) r (now (buffer .exit))"
 EMPTY = "stateOf (heldBy r) ≡ State.empty"
-SIZES = "r ≡ record { held = 3; own = parts yearLimit; matrix = parts yearLimit * parts yearLimit; «right_hand» = parts yearLimit; " \
-    "mean = parts yearLimit; «longest_file» = fileLength yearLimit; «longest_record» = recordLength yearLimit; }"
+OBSERVED = "(observationsAt (now (ticks .entry)) (now (weights .entry)) (now (variances .entry)))"
+OPENS = f"Opens {OF_C} {OBSERVED} (now (file .entry)) r {OPENED} {OBSERVED.replace('.entry', '.exit')}"
 CONTRACTS = {
     "empty": (EMPTY, "holding/State session/Value definitions/Machine"),
-    "open": ("Opens (heldBy s) (now (file .entry)) (r .answer) (heldBy (r .session))", "opening/Opens session/Value"),
+    "open": (
+        "Opens (heldBy s) (s .observations) (now (file .entry)) (r .answer) (heldBy (r .session)) (r .session .observations)",
+        "opening/Opens session/Value",
+    ),
     "judge": ("Judges (heldBy s) (now (lent .entry)) r", "judging/Judges session/Value"),
     "sweep": ("Sweeps (heldBy s) n (r .answer) (heldBy (r .session))", "sweeping/Sweeps session/Value"),
     "read": (f"Reads (heldBy s) {BUFFER}", "writing/Writes session/Value"),
     "page": (f"Pages (heldBy s) {BUFFER}", "writing/Writes session/Value"),
     "figures": ("Shows (heldBy s) r", "showing/Shows session/Value"),
     "close": (EMPTY, "holding/State session/Value definitions/Machine"),
-    "open_lent": (f"Opens {OF_C} (now (file .entry)) r {OPENED}", "opening/Opens holding/State"),
+    "open_lent": (OPENS, "opening/Opens holding/State observations/Arrays"),
     "judge_lent": (f"Judges {LENT} (now (lent .entry)) r", "judging/Judges holding/State"),
     "sweep_lent": (
         f"Sweeps (heldAt last closeness (now (total .entry)) {ARRAYS}) n r (heldAt last closeness (now (total .exit)) {SWEPT})",
@@ -38,7 +41,7 @@ CONTRACTS = {
     "figures_lent": (f"Shows {LENT} r", "showing/Shows holding/State"),
     "row": ("now r ≡ rowPart (now (s .entry)) channel year", "definitions/Machine"),
     "row_told": ("told r ≡ rowCheck (now (s .entry)) channel year", "definitions/Refusals layout/Checks"),
-    "desk_open_lent": (f"Opens {OF_C} (now (file .entry)) r {OPENED}", "desk/Calls holding/State"),
+    "desk_open_lent": (OPENS, "desk/Calls holding/State observations/Arrays"),
     "desk_judge_lent": (f"Judges {OF_C} (now (lent .entry)) r", "desk/Calls holding/State"),
     "desk_sweep_lent": (f"Sweeps {OF_C} n r (heldIn (now (held .exit)) {SWEPT})", "desk/Calls holding/State"),
     "desk_read_lent": (f"Reads {OF_C} {BUFFER}", "desk/Calls holding/State"),
@@ -46,7 +49,7 @@ CONTRACTS = {
     "desk_figures_lent": (f"Shows {OF_C} r", "desk/Calls holding/State"),
     "desk_close_lent": ("Closes (now (held .exit))", "desk/Calls"),
     "desk_row": ("ShowsRow (now (file .entry)) channel year r", "desk/Calls"),
-    "desk_sizes": (SIZES, "definitions/Layout definitions/Refusals"),
+    "desk_size": ("r ≡ sizeOf array", "desk/Sizes"),
     "list": ("take (r .end) (r .bytes) ≡ listing (now (given .entry))", "definitions/Programs"),
     "board": ("take (r .end) (r .bytes) ≡ boardPage (now (given .entry))", "definitions/Programs"),
 }
@@ -54,9 +57,9 @@ CONTRACTS = {
 # In which no letter counts.
 STRING = re.compile(r'"(?:[^"\\]|\\.)*"')
 
-# Of a program besides, that the end of what it prints is inside the bytes.
-PRINTING = {"list", "board"}
+# What some ensure besides: a program, that the end of what it prints is inside the bytes; sweep of a value, that its observations stay.
 INSIDE = " ensures { λ r. ⌜ (r .end ≤ length (r .bytes)) × (r .end ≡ length (take (r .end) (r .bytes))) ⌝ }"
+BESIDES = {"list": INSIDE, "board": INSIDE, "sweep": " ensures { λ r. ⌜ r .session .observations ≡ s .observations ⌝ }"}
 
 # What is drawn once more from contracts and laws, so that none can be weakened unseen. Nothing uses it, so each is expected here, with a
 # bracket around whatever stands in a module: what a module supposes is supposed of all that stands in it.
@@ -78,7 +81,9 @@ PINNED = {
         "never-16 )",
     "row_starts/Pinned": "( sixteen cells-counted none-counted )",
     "holding/Pinned": "( open-file reached-open )",
-    "opening/Pinned": "open-refused opened-holds as-with-16",
+    "laws/Columns":
+        "( ) ( ( own-of-phi firsts-of-phi ) ( own-of-psi firsts-of-psi ) ) ( ( own-phi right-hand-phi ) own-psi right-hand-psi )",
+    "opening/Pinned": "open-refused ( opened-keeps opened-holds ) as-with-16",
     "judging/Pinned": "( judge-worth judge-rounded )",
     "sweeping/Pinned": "( sweep-worth sweep-rounded ) sweep-refused",
     "writing/Pinned": "( write-worth )",
@@ -95,6 +100,7 @@ PINNED = {
         "none-shown figures-numbered ( shown-numbers shown-own shown-entry shown-right-hand ) ( numbers-of-file own-of-file "
         "entry-of-file right-hand-of-file ) ) ( row-told row-shows row-inside row-empty row-numbered ) ( ( judge-worth judge-rounded ) "
         "( sweep-worth sweep-rounded ) write-worth )",
+    "desk/PinnedSession": "( opens-all judges-all sweeps-all reads-all pages-all closes-all )",
 }
 
 # The examples that document 01 marks with a star ("Figures to agree on").
@@ -115,6 +121,9 @@ OF_THE_AMOUNTS = {
     "log-of-2^44", "largest-accepted", "largest-right-hand", "beside-1-right-hand", "paid-first-above", "paid-last-above",
     "incurred-first-above", "incurred-last-above", "amount-0",
 }
+
+# What a session keeps of F besides its figures.
+OF_A_SESSION = {"F-observed"}
 
 # Those of document 02's page and of its call, and the listing beside them.
 OF_THE_PAGE = {
@@ -142,8 +151,8 @@ class Promises(unittest.TestCase):
         for function in border():
             said, files = CONTRACTS[function[1]]
             clauses = " ".join(contract(function)[1].split())
-            inside = INSIDE if function[1] in PRINTING else ""
-            self.assertEqual(re.sub(r"^ensures { λ _\.", "ensures { λ r.", clauses), f"ensures {{ λ r. ⌜ {said} ⌝ }}{inside}", function)
+            besides = BESIDES.get(function[1], "")
+            self.assertEqual(re.sub(r"^ensures { λ _\.", "ensures { λ r.", clauses), f"ensures {{ λ r. ⌜ {said} ⌝ }}{besides}", function)
             named = {file_of(module) for module in modules_of_contract(function)} - {None}
             self.assertEqual(named, {"crates/{}/specs/{}.antt".format(*file.split("/")) for file in files.split()}, function)
 
@@ -171,7 +180,8 @@ class Promises(unittest.TestCase):
 
     def test_cases_of_the_joint_table(self) -> None:
         table = text_of("crates/definitions/specs/JointTable.antt").split("pub record JointTable")[1].split("pub jointTable")[0]
-        self.assertEqual(set(re.findall(r"^  pub (\S+) :", table, re.MULTILINE)), STARRED | OF_THE_PAGE | WITHOUT_PRIORS | OF_THE_AMOUNTS)
+        expected = STARRED | OF_A_SESSION | OF_THE_PAGE | WITHOUT_PRIORS | OF_THE_AMOUNTS
+        self.assertEqual(set(re.findall(r"^  pub (\S+) :", table, re.MULTILINE)), expected)
 
     def test_every_call_is_in_the_specification(self) -> None:
         for module in ("calls", "state"):

@@ -10,9 +10,7 @@ import os
 from ctypes import POINTER, Array, Structure, c_char_p, c_int64, c_size_t, c_uint8, c_uint64, sizeof
 from functools import lru_cache
 from pathlib import Path
-from typing import Any, Optional
-
-from .layout import LONGEST_FILE, LONGEST_RECORD
+from typing import Any, Callable
 
 VARIABLE = "RESERVING_DESK_LIBRARY"
 IN_THE_PACKAGE = Path(__file__).resolve().with_name("libdesk.so")
@@ -27,6 +25,9 @@ SESSION_FIELDS: dict[str, type[Array[Any]]] = {
     "matrix": c_int64 * 961,
     "right_hand": c_int64 * 31,
     "mean": c_int64 * 31,
+    "ticks": c_int64 * 303,
+    "weights": c_uint64 * 77,
+    "variances": c_uint64 * 31,
 }
 
 
@@ -57,27 +58,22 @@ class System(Structure):
     ]
 
 
-class Sizes(Structure):
-    """Of each field of a session how many numbers it holds; of the longest file and record how many bytes."""
-
-    _fields_ = [(name, c_uint64) for name in (*SESSION_FIELDS, "longest_file", "longest_record")]
-
-
 SESSION: list[Any] = [POINTER(field) for field in SESSION_FIELDS.values()]
+HELD = SESSION[:5]  # without the observations, which are open's alone
 LENT: list[Any] = [c_char_p, c_size_t]
 BUFFER: list[Any] = [POINTER(c_uint8), c_size_t]
 
 # By name: the answer and the parameters.
-FUNCTIONS: dict[str, tuple[Optional[type[Structure]], list[Any]]] = {
+FUNCTIONS: dict[str, tuple[Any, list[Any]]] = {
     "desk_open_lent": (Refusal, SESSION + LENT),
-    "desk_judge_lent": (Judged, SESSION + LENT),
-    "desk_sweep_lent": (Swept, SESSION + [c_uint64]),
-    "desk_read_lent": (Refusal, SESSION + BUFFER),
-    "desk_page_lent": (Refusal, SESSION + BUFFER),
-    "desk_figures_lent": (System, SESSION),
+    "desk_judge_lent": (Judged, HELD + LENT),
+    "desk_sweep_lent": (Swept, HELD + [c_uint64]),
+    "desk_read_lent": (Refusal, HELD + BUFFER),
+    "desk_page_lent": (Refusal, HELD + BUFFER),
+    "desk_figures_lent": (System, HELD),
     "desk_row": (Shown, LENT + [c_uint64, c_uint64]),
     "desk_close_lent": (None, SESSION[:1]),
-    "desk_sizes": (Sizes, []),
+    "desk_size": (c_uint64, [c_uint64]),
 }
 
 
@@ -109,16 +105,14 @@ def load(path: Path) -> ctypes.CDLL:
             function.restype, function.argtypes = answer, parameters
     except (OSError, AttributeError) as error:
         raise LibraryMissing(f"{path} is not the desk's library: run ./build in the checkout ({error})") from error
-    differences = _differences(library.desk_sizes())
+    differences = _differences(library.desk_size)
     if differences:
         raise SizesDiffer(f"{path} is not the library of this package: {'; '.join(differences)}")
     return library
 
 
-def _differences(told: Sizes) -> list[str]:
-    """Where the library keeps to other sizes than the package. Each number of a session has 8 bytes."""
-    ours = {name: sizeof(field) for name, field in SESSION_FIELDS.items()}
-    theirs = {name: sizeof(c_uint64) * getattr(told, name) for name in SESSION_FIELDS}
-    ours.update(longest_file=LONGEST_FILE, longest_record=LONGEST_RECORD)
-    theirs.update(longest_file=told.longest_file, longest_record=told.longest_record)
-    return [f"{name} has {theirs[name]} bytes there and {ours[name]} here" for name in ours if ours[name] != theirs[name]]
+def _differences(size: Callable[[int], int]) -> list[str]:
+    """Where the library keeps to other arrays than the package. Each number of a session has 8 bytes."""
+    fields = [(name, sizeof(field)) for name, field in SESSION_FIELDS.items()]
+    told = [(name, sizeof(c_uint64) * size(place), here) for place, (name, here) in enumerate([*fields, ("what is behind them", 0)])]
+    return [f"{name} has {there} bytes there and {here} here" for name, there, here in told if there != here]

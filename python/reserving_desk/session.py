@@ -12,7 +12,7 @@ from .answers import Figures, Judgement, Sweeping
 from .arguments import Buffer, BytesLike, lent_bytes, not_negative, whole, writable_view
 from .details import refused_buffer, refused_file, refused_record, refused_row, refused_state, refused_sweep
 from .layout import AMOUNT, LONGEST_PAGE, LONGEST_RECORD, MOST_SWEEPS, Mean, mean_of, page_length, record_length
-from .library import ROW_LENGTH, SESSION_FIELDS, library_path, load
+from .library import HELD, ROW_LENGTH, SESSION_FIELDS, library_path, load
 
 LARGEST_NUMBER = (1 << 64) - 1  # that the library can be handed
 
@@ -30,7 +30,10 @@ class Session:
         self._one_at_a_time = threading.Lock()
 
     def open(self, file: BytesLike) -> None:
-        """Opens a file: the session then holds its figures, its prior means as mean, 0 sweeps. Refused with 22, 1 to 10."""
+        """Opens a file: the session then holds its observations and figures, its prior means as mean, 0 sweeps.
+
+        Refused with 22, 1 to 10.
+        """
         lent = lent_bytes("file", file)
         with self._one_at_a_time:
             refusal = self._library.desk_open_lent(*self._fields, lent, len(lent))
@@ -41,7 +44,7 @@ class Session:
         """Judges a mean record, whoever wrote it; the session is untouched. Refused with 21, 1, 2, 4, 11."""
         lent = lent_bytes("record", record)
         with self._one_at_a_time:
-            judged = self._library.desk_judge_lent(*self._fields, lent, len(lent))
+            judged = self._library.desk_judge_lent(*self._held(), lent, len(lent))
             last = self._last()
         if judged.refusal.number:
             raise refused_record(judged.refusal, lent, last)
@@ -53,7 +56,7 @@ class Session:
         # Beyond what the library can be handed the answer is the same as at its limits.
         within = min(max(wanted, 0), LARGEST_NUMBER)
         with self._one_at_a_time:
-            swept = self._library.desk_sweep_lent(*self._fields, within)
+            swept = self._library.desk_sweep_lent(*self._held(), within)
         if swept.refusal.number:
             raise refused_sweep(swept.refusal, wanted)
         return Sweeping(bool(swept.settled), swept.total)
@@ -94,7 +97,7 @@ class Session:
         With a closeness of at least 256 the exact solution, rounded so, passes if its parts are inside the limits. Refused with 21.
         """
         with self._one_at_a_time:
-            system = self._library.desk_figures_lent(*self._fields)
+            system = self._library.desk_figures_lent(*self._held())
         if system.refusal.number:
             raise refused_state(system.refusal)
         parts = 2 * system.last + 1
@@ -125,11 +128,15 @@ class Session:
             size = view.nbytes
             lent = (c_uint8 * size).from_buffer(view)
             with self._one_at_a_time:
-                refusal = call(*self._fields, lent, size)
+                refusal = call(*self._held(), lent, size)
                 last = self._last()
             del lent  # which would keep the buffer's size fixed
         if refusal.number:
             raise refused_buffer(refusal, size, thing, length, last)
+
+    def _held(self) -> tuple[Array[Any], ...]:
+        """What every call but `open` is lent: all but the observations."""
+        return self._fields[:len(HELD)]
 
     def _last(self) -> int:
         """J of the file that is open, for the words of a refusal."""

@@ -19,23 +19,13 @@ def load_anew() -> None:
 
 
 def with_size(name: str, size: Any) -> AbstractContextManager[Any]:
-    """The package with one of the sizes that the library tells changed."""
-    if name in package.SESSION_FIELDS:
-        return mock.patch.dict(package.SESSION_FIELDS, {name: size})
-    return mock.patch.object(package, name.upper(), size)
+    """The package with one of its fields changed."""
+    return mock.patch.dict(package.SESSION_FIELDS, {name: size})
 
 
 def count_of(name: str) -> int:
     """How many numbers a field of a session holds, each of 8 bytes."""
     return sizeof(package.SESSION_FIELDS[name]) // sizeof(c_uint64)
-
-
-def size_and_next(name: str) -> tuple[Any, Any]:
-    """One less than the package has, and one more."""
-    if name in package.SESSION_FIELDS:
-        count = count_of(name)
-        return c_uint64 * (count - 1), c_uint64 * (count + 1)
-    return getattr(package, name.upper()) - 1, getattr(package, name.upper()) + 1
 
 
 class Sizes(unittest.TestCase):
@@ -45,11 +35,26 @@ class Sizes(unittest.TestCase):
         self.assertEqual(LONGEST_RECORD, layout.record_length(layout.LARGEST_YEAR))
 
     def test_every_size_that_differs_is_named(self) -> None:
-        for name, _ in package.Sizes._fields_:
-            for size in size_and_next(name):
-                with self.subTest(name), with_size(name, size):
+        for name in package.SESSION_FIELDS:
+            for count in (count_of(name) - 1, count_of(name) + 1):
+                with self.subTest(name), with_size(name, c_uint64 * count):
                     with self.assertRaisesRegex(SizesDiffer, f"is not the library of this package: {name} has "):
                         load_anew()
+
+    def test_an_array_more_or_less(self) -> None:
+        with with_size("struck", c_uint64 * 17):
+            with self.assertRaisesRegex(SizesDiffer, "struck has 0 bytes there and 136 here"):
+                load_anew()
+        fewer = dict(list(package.SESSION_FIELDS.items())[:-1])
+        with mock.patch.object(package, "SESSION_FIELDS", fewer):
+            with self.assertRaisesRegex(SizesDiffer, "what is behind them has 248 bytes there and 0 here"):
+                load_anew()
+
+    def test_a_library_of_the_version_before(self) -> None:
+        """It has no such function, and is not called."""
+        with mock.patch.dict(package.FUNCTIONS, {"desk_sizes": package.FUNCTIONS["desk_size"]}):
+            with self.assertRaisesRegex(LibraryMissing, "is not the desk's library"):
+                load_anew()
 
     def test_numbers_of_four_bytes(self) -> None:
         for name in package.SESSION_FIELDS:

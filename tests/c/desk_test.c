@@ -32,13 +32,16 @@ static void expect_fails(desk_judgement answer, uint64_t part) {
 static void test_sizes(void) {
     static const desk_session ZEROS;
     const desk_session s = DESK_EMPTY;
-    const desk_counts told = desk_sizes();
-    EXPECT(COUNT(s.held) == told.held && COUNT(s.own) == told.own && COUNT(s.matrix) == told.matrix);
-    EXPECT(COUNT(s.right_hand) == told.right_hand && COUNT(s.mean) == told.mean);
-    EXPECT(sizeof s == 8 * (told.held + told.own + told.matrix + told.right_hand + told.mean));
+    EXPECT(COUNT(s.held) == desk_size(0) && COUNT(s.own) == desk_size(1) && COUNT(s.matrix) == desk_size(2));
+    EXPECT(COUNT(s.right_hand) == desk_size(3) && COUNT(s.mean) == desk_size(4));
+    EXPECT(COUNT(s.ticks) == desk_size(5) && COUNT(s.weights) == desk_size(6) && COUNT(s.variances) == desk_size(7));
+    EXPECT(desk_size(8) == 0 && desk_size(UINT64_MAX) == 0);
+    uint64_t numbers = 0;
+    for (uint64_t array = 0; desk_size(array) != 0; array++) {
+        numbers += desk_size(array);
+    }
+    EXPECT(sizeof s == 8 * numbers);
     EXPECT(memcmp(&s, &ZEROS, sizeof s) == 0);
-    EXPECT(DESK_LONGEST_RECORD == told.longest_record);
-    EXPECT(LONGEST_FILE == told.longest_file);
 }
 
 static void test_figures_of_f(void) {

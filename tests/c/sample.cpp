@@ -44,8 +44,15 @@ void expect_rows(const Bytes &file, std::uint64_t last) {
     expect(start == file.size(), "the rows end with the file");
 }
 
+// The struct that the header declares is as long as the library's arrays together.
+void expect_session_size() {
+    std::size_t numbers = 0;
+    for (std::uint64_t array = 0; desk_size(array) != 0; array++) numbers += desk_size(array);
+    expect(sizeof(desk_session) == 8 * numbers, "a session has the size that the library tells");
+}
+
 Bytes settled_record(desk_session *session) {
-    Bytes record(desk_sizes().longest_record);
+    Bytes record(DESK_LONGEST_RECORD);
     expect(desk_read(session, record.data(), record.size()).number == 0, "a settled mean is read");
     record.resize(static_cast<std::size_t>(field(record, 0)));
     expect(desk_judge(session, record.data(), record.size()).passed == 1, "the mean that is read passes");
@@ -96,6 +103,7 @@ int main(int count, char **arguments) {
     const desk_sweeping swept = desk_sweep(&session, DESK_MOST_SWEEPS);
     expect(swept.settled == 1, "its mean settles");
     const std::size_t last = file[5];
+    expect_session_size();
     const Bytes record = settled_record(&session);
     expect_rows(file, last);
     const desk_system shown = desk_figures(&session);

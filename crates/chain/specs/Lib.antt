@@ -6,11 +6,9 @@
 --   Residues, Judge      the contracts, a record each for what is asked and what is given
 --   AcceptedFits   the figures of an accepted file fit, and its prior means are inside the limits
 --   Sizes          the sizes of what the code computes
---   Bits           a whole number in the bits of an i64
 --   Turned         an array that is rewritten from the front
 pub mod AcceptedFits
 pub mod Arrays
-pub mod Bits
 pub mod Decides
 pub mod Fitting
 pub mod Judge

@@ -1,5 +1,6 @@
--- Demand 3: what a passed mean is worth. A rational vector is any u over one m ≥ 1, with no limits; of u only the parts 0..2J
--- count. Whole numbers alone are compared: a loss is m² times as large here, a residue m times, a distance m²·ΣD times.
+-- Demand 3: what a passed mean is worth, of observations with a closeness e, and so of every accepted file. A rational vector is any u
+-- over one m ≥ 1, with no limits; of u only the parts 0..2J count. Whole numbers alone are compared: a loss is m² times as large here,
+-- a residue m times, a distance m²·ΣD times.
 use Prim.Native.Nat.{ℕ, _*_, _≤_, _<_}
 use mathlib.Core.Path.{_≡_}
 use mathlib.Core.Logic.{_≢_}
@@ -7,27 +8,27 @@ use mathlib.Core.Bool.{true}
 use lib.IntN.{ℤ, pos, natAbs, _+ℤ_, _-ℤ_, _*ℤ_}
 use lib.Signed.{_≤ℤ_, _<ℤ_}
 use Rattle.integers.specs.Summation.{sum, total}
-use Rattle.definitions.specs.Layout.{Bytes, lastYear, closeness, parts}
+use Rattle.definitions.specs.Layout.{Bytes, closeness, parts}
 use Rattle.definitions.specs.Refusals.{partLimit, accepted}
-use Rattle.definitions.specs.Observations.{chainOf}
+use Rattle.definitions.specs.Observations.{Chain, chainOf}
 use Rattle.definitions.specs.Loss.{Vector, weighted, loss, lossTimes}
-use Rattle.definitions.specs.Matrix.{own, residueTimes, figuresOf, passes}
+use Rattle.definitions.specs.Matrix.{own, residueTimes, figuresFrom, figuresOf, passes}
 
-module _ (f : Bytes) where
+module _ (c : Chain) (e : ℕ) where
   abbrev pub partsOf : ℕ
-  partsOf = parts (lastYear f)
+  partsOf = parts (c .last)
 
   -- e² times the sum of own weights
   abbrev pub slack : ℕ
-  slack = closeness f * closeness f * total partsOf (own (chainOf f))
+  slack = e * e * total partsOf (own c)
 
   -- each residue of u/m is 0
   abbrev pub ZeroResidue : ℕ → Vector → Type 0
-  ZeroResidue m u = (k : ℕ) → k < partsOf → residueTimes (chainOf f) m u k ≡ pos 0
+  ZeroResidue m u = (k : ℕ) → k < partsOf → residueTimes c m u k ≡ pos 0
 
   -- how far u/m is from a mean in weighted mean square; as a whole number, m²·ΣD times that
   abbrev pub distanceTimes : ℕ → Vector → Vector → ℤ
-  distanceTimes m u μ = sum partsOf (λ k. weighted (own (chainOf f) k) (u k -ℤ pos m *ℤ μ k))
+  distanceTimes m u μ = sum partsOf (λ k. weighted (own c k) (u k -ℤ pos m *ℤ μ k))
 
   -- u/m is another vector than the mean: it differs at some part
   abbrev pub Another : ℕ → Vector → Vector → Type 0
@@ -45,16 +46,16 @@ module _ (f : Bytes) where
   pub record Guarantee (μ : Vector) : Type 0 where
     -- no rational vector has a loss that is lower by more than the slack
     pub nearly-least : (m : ℕ) (u : Vector) → 1 ≤ m
-        → (pos (m * m) *ℤ loss (chainOf f) μ) ≤ℤ (lossTimes (chainOf f) m u +ℤ pos (m * m * slack))
+        → (pos (m * m) *ℤ loss c μ) ≤ℤ (lossTimes c m u +ℤ pos (m * m * slack))
     -- a rational vector whose residues are all 0 is no further away than e² in weighted mean square
     pub near : (m : ℕ) (u : Vector) → 1 ≤ m → ZeroResidue m u → distanceTimes m u μ ≤ℤ pos (m * m * slack)
     -- where the mean's own residues are all 0, any other rational vector has a higher loss
     pub strictly-least : ZeroResidue 1 μ → (m : ℕ) (u : Vector) → 1 ≤ m → Another m u μ
-        → (pos (m * m) *ℤ loss (chainOf f) μ) <ℤ lossTimes (chainOf f) m u
+        → (pos (m * m) *ℤ loss c μ) <ℤ lossTimes c m u
 
-  -- A mean that was rounded from an exact one, u/m, for a file whose closeness leaves room for that.
+  -- A mean that was rounded from an exact one, u/m, with a closeness that leaves room for that.
   pub record Rounded (μ : Vector) : Type 0 where
-    pub room : 256 ≤ closeness f
+    pub room : 256 ≤ e
     pub inside : InsideLimits μ
     pub m : ℕ
     pub u : Vector
@@ -63,9 +64,10 @@ module _ (f : Bytes) where
     pub half : WithinHalfATick m u μ
 
   abbrev pub RoundingPasses : Type 0
-  RoundingPasses = (μ : Vector) → Rounded μ → passes (figuresOf f) μ ≡ true
+  RoundingPasses = (μ : Vector) → Rounded μ → passes (figuresFrom c e) μ ≡ true
 
 -- demand 3, whole: for every accepted file, whoever proposed the mean
 pub record Demand3 : Type 0 where
-  pub guarantee : (f : Bytes) → accepted f ≡ true → (μ : Vector) → passes (figuresOf f) μ ≡ true → Guarantee f μ
-  pub rounding : (f : Bytes) → accepted f ≡ true → RoundingPasses f
+  pub guarantee : (f : Bytes) → accepted f ≡ true → (μ : Vector) → passes (figuresOf f) μ ≡ true
+      → Guarantee (chainOf f) (closeness f) μ
+  pub rounding : (f : Bytes) → accepted f ≡ true → RoundingPasses (chainOf f) (closeness f)

@@ -15,10 +15,11 @@ use Rattle.definitions.specs.Layout.{Bytes, bigEndian, unsigned, twosCom
 use Rattle.definitions.specs.Refusals.{refuses, fields, check1, check2, check3, check4, check5, check6, check7, check8, check9, check10, fileCheck}
 use Rattle.definitions.specs.Refusals.{accepted}
 use Rattle.definitions.specs.Observations.{Chain, chainOf, ratioVariance, paidStep, incurredStep, lastRatio}
-use Rattle.definitions.specs.Matrix.{Φ, Ψ, Figures, figuresOf, partOf, own, matrix, rightHand, residue, passed, fails, judgement, judgeFrom}
+use Rattle.definitions.specs.Matrix.{Φ, Ψ, Figures, figuresFrom, figuresOf, partOf, own, matrix, rightHand, residue, passed, fails, judgement, judgeFrom}
 use Rattle.definitions.specs.Text.{ascii, decimalFrom, signedDecimal, aligned, nameOf, indexOf, lines}
 use Rattle.definitions.specs.Page.{pageLine, pageOf}
-use Rattle.definitions.specs.Machine.{refused, written, State, empty, holds, Outcome, openCall, sweepCall, writeCall, pageCall}
+use Rattle.definitions.specs.Machine.{refused, written, State, empty, holds, mapState, Outcome, theFile, openCall, sweepCall, writeCall, pageCall}
+use Rattle.definitions.specs.Kept.{observedOf}
 use Rattle.definitions.specs.Programs.{partLine, sweepText, openText, programText, listed, listing, boardPage}
 
 -- ---- File F, byte by byte, with closeness e: J = 1, σ² and τ² all 2^30, prior variances 2^46, prior means 10T, T, −T
@@ -87,9 +88,9 @@ flatFrom b = fileOf 1 (4 ∷ 0 ∷ 0 ∷ b ∷ []) 0-in-8 0-in-8 0-in-8
 abbrev amountsF : (p₀ e p₁ i₀ i₁ : Bytes) → Bytes
 amountsF p₀ e p₁ i₀ i₁ = before 1 10T-in-4 2^46-in-8 2^46-in-8 2^46-in-8 ++ p₀ ++ e ++ p₁ ++ i₀ ++ e ++ i₁
 
--- what a session holds that opened it
+-- what is held once it is open, its figures in the place of the file
 abbrev openedFrom : ℕ → State Figures
-openedFrom b = openCall Figures figuresOf (λ G. G) empty (flatFrom b) .state
+openedFrom b = mapState figuresOf (openCall theFile empty (flatFrom b) .state)
 
 abbrev F : Figures
 F = figuresOf (fileF 1)
@@ -106,7 +107,7 @@ residues μ = tabFrom 0 3 (residue F (part μ))
 
 -- the call `page`, lent so many bytes
 abbrev pageOfF : State Figures → ℕ → Outcome Figures
-pageOfF st size = pageCall Figures figuresOf (λ G. G) st (replicate size 165)
+pageOfF st size = pageCall (λ G. G) st (replicate size 165)
 
 pub record JointTable : Type 0 where
   pub log-of-1 : logarithm 1 ≡ 0
@@ -116,9 +117,21 @@ pub record JointTable : Type 0 where
   pub weight-of-2^18 : weight (2 ^ 18) ≡ 2 ^ 28
   pub weight-of-2^46 : weight (2 ^ 46) ≡ 1
   pub F-accepted : accepted (fileF 1) ≡ true
-  pub F-p : tabFrom 0 2 (weights .p) ≡ 65536 ∷ 65536 ∷ []
-  pub F-q : weights .q 0 ≡ 65536
+  -- of x_(0,0), x_(0,1) and x_(1,0), and of z_(0,0)
+  pub F-p : weights .p 0 0 ∷ weights .p 0 1 ∷ weights .p 1 0 ∷ [] ≡ 65536 ∷ 65536 ∷ 65536 ∷ []
+  pub F-q : weights .q 0 0 ≡ 65536
   pub F-g : weights .g 0 ≡ 32768
+  -- what a session keeps of F besides its figures
+  pub F-observed :
+      observedOf (fileF 1)
+      ≡ record {
+        logarithms = pos 10485760 ∷ pos 11534336 ∷ pos 10485760 ∷ pos 12582912 ∷ pos 11534336 ∷ pos 12582912 ∷ [];
+        variances = 1073741824 ∷ 1073741824 ∷ 1073741824 ∷ [];
+        weights = 65536 ∷ 65536 ∷ 65536 ∷ [];
+        priorWeights = 1 ∷ 1 ∷ 1 ∷ [];
+        ratioWeights = 32768 ∷ [];
+        priorMeans = mean 0 0;
+      }
   pub F-own : F .own ≡ 131073 ∷ 65537 ∷ 65537 ∷ []
   pub F-matrix :
       F .matrix
@@ -200,7 +213,7 @@ pub record JointTable : Type 0 where
 pub jointTable : JointTable
 unfolding leadingZeros sum total tabFrom logarithm halfTicks bitsOf highestBit startFrom nextBit nextY weight bigEndian unsigned
     twosComplement rowStart fields check1 check2 check3 check4 check5 check6 check7 check8 check9 check10 fileCheck
-    ratioVariance paidStep incurredStep lastRatio figuresOf partOf own matrix rightHand residue judgeFrom
+    ratioVariance paidStep incurredStep lastRatio figuresFrom partOf own matrix rightHand residue judgeFrom
     ascii decimalFrom signedDecimal aligned nameOf indexOf lines pageLine partLine openCall sweepCall writeCall
     sweepText openText programText listed
 jointTable = record {
@@ -214,6 +227,7 @@ jointTable = record {
   F-p = refl;
   F-q = refl;
   F-g = refl;
+  F-observed = refl;
   F-own = refl;
   F-matrix = refl;
   F-right-hand = refl;

@@ -12,6 +12,7 @@
 --   Text           numbers in base ten, aligned; the names of the parts
 --   Page           the page of a mean and its own weights
 --   Machine        the session machine: each call's answer, and state and buffer afterwards
+--   Kept           what a session keeps of a file in the file's place
 --   Programs       what the programs print: the listing, and the page of a settled mean
 --   Guarantee      demand 3: what a passed mean is worth, and which means must pass
 --   JointTable     the starred figures, with the page and the listing of F, as one theorem
@@ -32,6 +33,7 @@ pub mod Sweep
 pub mod Text
 pub mod Page
 pub mod Machine
+pub mod Kept
 pub mod Programs
 pub mod Guarantee
 pub mod JointTable

@@ -26,8 +26,8 @@ module _ (c : Chain) where
   -- The loss of the rational vector u/m, times m². Of a whole mean it is that at m = 1.
   unfoldable pub lossTimes : ℕ → Vector → ℤ
   lossTimes m u =
-      sum (c .last + 1) (λ j. sum (c .last - j + 1) (λ i. weighted (c .p j) (phi u j -ℤ pos m *ℤ c .x i j)))
-      +ℤ sum (c .last) (λ j. sum (c .last - j) (λ i. weighted (c .q j) (psi u j -ℤ pos m *ℤ c .z i j)))
+      sum (c .last + 1) (λ j. sum (c .last - j + 1) (λ i. weighted (c .p i j) (phi u j -ℤ pos m *ℤ c .x i j)))
+      +ℤ sum (c .last) (λ j. sum (c .last - j) (λ i. weighted (c .q i j) (psi u j -ℤ pos m *ℤ c .z i j)))
       -- g by development year J−i, for the accident years i = 1..J
       +ℤ sum (c .last) (λ k. weighted (c .g (c .last - (k + 1))) (ratio u (k + 1) -ℤ pos m *ℤ c .y (k + 1)))
       +ℤ sum (c .last + 1) (λ j. weighted (c .s j) (phi u j -ℤ pos m *ℤ c .priorΦ j))

@@ -40,11 +40,21 @@ abbrev pub refusedOr : Check → Answer → Answer
 refusedOr clear a = a
 refusedOr (refuses number place) a = refused number place
 
--- Nothing, or an open file with its mean and how many sweeps were run. The specification's machine keeps the file itself; a session keeps
--- its figures.
+-- Nothing, or what is kept of an open file, with its mean and how many sweeps were run.
 pub data State (X : Type 0) : Type 0 where
   empty : State X
   holds : X → List ℤ → ℕ → State X
+
+-- the same with something else kept in its place
+abbrev pub mapState : {X Y : Type 0} → (X → Y) → State X → State Y
+mapState φ empty = empty
+mapState φ (holds x μ total) = holds (φ x) μ total
+
+-- What is kept of a file: how, and what the calls use of it. The specification's machine keeps the file itself; a session keeps arrays.
+pub record Keeping (X : Type 0) : Type 0 where
+  pub keep : Bytes → X
+  pub figures : X → Figures
+  pub priorMeans : X → List ℤ
 
 -- the buffer is the one that `read` or `page` was lent, and no byte for any other call
 pub record Outcome (X : Type 0) : Type 0 where
@@ -70,22 +80,17 @@ recordIn F μ = recordOf (F .last) μ
 abbrev pub pageIn : Figures → List ℤ → Bytes
 pageIn F μ = pageOf (F .last) μ (F .own)
 
--- ---- the calls, over what is kept of a file
+-- ---- judge, sweep, read and page, which use the figures alone
 
-module _ (X : Type 0) (keep : Bytes → X) (figures : X → Figures) where
-  -- a call that answers and leaves the state as it was
-  abbrev pub answers : State X → Answer → Outcome X
-  answers st a = record { answer = a; state = st; buffer = [] }
+-- a call that answers and leaves the state as it was
+abbrev pub answers : {X : Type 0} → State X → Answer → Outcome X
+answers st a = record { answer = a; state = st; buffer = [] }
 
-  -- the mean starts at the prior means, and no sweep is run
-  abbrev pub openUnless : Check → Bytes → Outcome X
-  openUnless clear f = record { answer = opened; state = holds (keep f) (tabFrom 0 (parts (lastYear f)) (priorMean f)) 0; buffer = [] }
-  openUnless (refuses number place) f = answers empty (refused number place)
+-- the same with the buffer that it was lent
+abbrev pub writes : {X : Type 0} → State X → Answer → Bytes → Outcome X
+writes st a b = record { answer = a; state = st; buffer = b }
 
-  unfoldable pub openCall : State X → Bytes → Outcome X
-  openCall empty f = openUnless (fileCheck f) f
-  openCall (holds x μ total) f = answers (holds x μ total) (refused 22 0)
-
+module _ {X : Type 0} (figures : X → Figures) where
   unfoldable pub judgeCall : State X → Bytes → Answer
   judgeCall empty r = refused 21 0
   judgeCall (holds x μ total) r =
@@ -108,9 +113,6 @@ module _ (X : Type 0) (keep : Bytes → X) (figures : X → Figures) where
       (cond (passes (figures x) (part μ)) (answers (holds x μ total) (settled total))
       (cond (leb sweepLimit total) (answers (holds x μ total) (refused 23 0)) swept))
 
-  abbrev pub writes : State X → Answer → Bytes → Outcome X
-  writes st a b = record { answer = a; state = st; buffer = b }
-
   -- 21, 24, 13: of a mean that passes a text is written, so many bytes for a J; those behind it stay
   unfoldable pub writeCall : (ℕ → ℕ) → (Figures → List ℤ → Bytes) → State X → Bytes → Outcome X
   writeCall size text empty b = writes empty (refused 21 0) b
@@ -125,12 +127,24 @@ module _ (X : Type 0) (keep : Bytes → X) (figures : X → Figures) where
   abbrev pub pageCall : State X → Bytes → Outcome X
   pageCall = writeCall pageLength pageIn
 
+-- ---- all calls, over what is kept
+
+module _ {X : Type 0} (K : Keeping X) where
+  -- the mean starts at the prior means, and no sweep is run
+  abbrev pub openUnless : Check → Bytes → Outcome X
+  openUnless clear f = record { answer = opened; state = holds (K .keep f) (K .priorMeans (K .keep f)) 0; buffer = [] }
+  openUnless (refuses number place) f = answers empty (refused number place)
+
+  unfoldable pub openCall : State X → Bytes → Outcome X
+  openCall empty f = openUnless (fileCheck f) f
+  openCall (holds x μ total) f = answers (holds x μ total) (refused 22 0)
+
   unfoldable pub outcome : State X → Call → Outcome X
   outcome st (open-file f) = openCall st f
-  outcome st (judge r) = answers st (judgeCall st r)
-  outcome st (sweep n) = sweepCall st n
-  outcome st (read b) = readCall st b
-  outcome st (page b) = pageCall st b
+  outcome st (judge r) = answers st (judgeCall (K .figures) st r)
+  outcome st (sweep n) = sweepCall (K .figures) st n
+  outcome st (read b) = readCall (K .figures) st b
+  outcome st (page b) = pageCall (K .figures) st b
   outcome st (row f channel year) = answers st (part-shown (rowPart f channel year))
   outcome st (row-told f channel year) = answers st (refusedOr (rowCheck f channel year) row-is-shown)
   outcome st close = record { answer = closed; state = empty; buffer = [] }
@@ -141,9 +155,8 @@ module _ (X : Type 0) (keep : Bytes → X) (figures : X → Figures) where
   outcomes st (call ∷ calls) = outcome st call ∷ outcomes (outcome st call .state) calls
 
 -- the specification's session machine
-abbrev pub machine : State Bytes → Call → Outcome Bytes
-machine = outcome Bytes (λ f. f) figuresOf
+abbrev pub theFile : Keeping Bytes
+theFile = record { keep = λ f. f; figures = figuresOf; priorMeans = λ f. tabFrom 0 (parts (lastYear f)) (priorMean f) }
 
--- the same over a file's figures, which is all that the calls use of a file
-abbrev pub figuresMachine : State Figures → Call → Outcome Figures
-figuresMachine = outcome Figures figuresOf (λ F. F)
+abbrev pub machine : State Bytes → Call → Outcome Bytes
+machine = outcome theFile

@@ -6,9 +6,9 @@ use mathlib.Core.List.{List, []}
 use lib.IntN.{ℤ, pos, natAbs, negℤ, _+ℤ_, _-ℤ_, _*ℤ_}
 use lib.ListN.{getD}
 use lib.Dec.{leb, eqb}
-use Rattle.integers.specs.Summation.{sum}
+use Rattle.integers.specs.Summation.{sum, total}
 use Rattle.definitions.specs.Words.{tabFrom, part}
-use Rattle.definitions.specs.Layout.{Bytes, lastYear, closeness, parts}
+use Rattle.definitions.specs.Layout.{Bytes, closeness, parts}
 use Rattle.definitions.specs.Observations.{Chain, chainOf}
 use Rattle.definitions.specs.Loss.{Vector}
 
@@ -23,8 +23,8 @@ partOf J k = cond (leb k J) (Φ k) (Ψ (k - (J + 1)))
 module _ (c : Chain) where
   -- D: the weights of a part's own observations and of its prior
   abbrev pub ownOf : Part → ℕ
-  ownOf (Φ j) = c .s j + (c .last - j + 1) * c .p j
-  ownOf (Ψ j) = c .t j + (c .last - j) * c .q j
+  ownOf (Φ j) = c .s j + total (c .last - j + 1) (λ i. c .p i j)
+  ownOf (Ψ j) = c .t j + total (c .last - j) (λ i. c .q i j)
 
   -- the first n of the g
   abbrev pub sharedBy : ℕ → ℤ
@@ -48,8 +48,8 @@ module _ (c : Chain) where
   -- The right-hand side: Φ_j has the ratios of i ≥ J−j+1, j of them; Ψ_j those of i ≥ J−j, j + 1 of them. (Trap: not of i ≥ J−1,
   -- as the theorem is printed in some copies of the paper.)
   abbrev pub targetOf : Part → ℤ
-  targetOf (Φ j) = pos (c .s j) *ℤ c .priorΦ j +ℤ pos (c .p j) *ℤ sum (c .last - j + 1) (λ i. c .x i j) +ℤ ratiosOfLast j
-  targetOf (Ψ j) = pos (c .t j) *ℤ c .priorΨ j +ℤ pos (c .q j) *ℤ sum (c .last - j) (λ i. c .z i j) -ℤ ratiosOfLast (j + 1)
+  targetOf (Φ j) = pos (c .s j) *ℤ c .priorΦ j +ℤ sum (c .last - j + 1) (λ i. pos (c .p i j) *ℤ c .x i j) +ℤ ratiosOfLast j
+  targetOf (Ψ j) = pos (c .t j) *ℤ c .priorΨ j +ℤ sum (c .last - j) (λ i. pos (c .q i j) *ℤ c .z i j) -ℤ ratiosOfLast (j + 1)
 
   -- the same by a part's index
   unfoldable pub own : ℕ → ℕ
@@ -65,7 +65,7 @@ module _ (c : Chain) where
   unfoldable pub residueTimes : ℕ → Vector → ℕ → ℤ
   residueTimes m u k = sum (parts (c .last)) (λ l. matrix k l *ℤ u l) -ℤ pos m *ℤ rightHand k
 
--- ---- the figures of a file that the calls use: J, e, and as lists D, the rows of A, the right-hand side
+-- ---- the figures that the calls use: J, e, and as lists D, the rows of A, the right-hand side
 
 pub record Figures : Type 0 where
   pub last : ℕ
@@ -74,14 +74,19 @@ pub record Figures : Type 0 where
   pub matrix : List (List ℤ)
   pub rightHand : List ℤ
 
-unfoldable pub figuresOf : Bytes → Figures
-figuresOf f = record {
-  last = lastYear f;
-  closeness = closeness f;
-  own = tabFrom 0 (parts (lastYear f)) (own (chainOf f));
-  matrix = tabFrom 0 (parts (lastYear f)) (λ k. tabFrom 0 (parts (lastYear f)) (matrix (chainOf f) k));
-  rightHand = tabFrom 0 (parts (lastYear f)) (rightHand (chainOf f));
+-- of observations, with a closeness
+unfoldable pub figuresFrom : Chain → ℕ → Figures
+figuresFrom c e = record {
+  last = c .last;
+  closeness = e;
+  own = tabFrom 0 (parts (c .last)) (own c);
+  matrix = tabFrom 0 (parts (c .last)) (λ k. tabFrom 0 (parts (c .last)) (matrix c k));
+  rightHand = tabFrom 0 (parts (c .last)) (rightHand c);
 }
+
+-- of a file
+abbrev pub figuresOf : Bytes → Figures
+figuresOf f = figuresFrom (chainOf f) (closeness f)
 
 pub data Judgement : Type 0 where
   passed : Judgement

@@ -6,12 +6,12 @@ use Rattle.definitions.specs.Logarithm.{logarithm}
 use Rattle.definitions.specs.Weight.{weight}
 use Rattle.definitions.specs.Layout.{Bytes, lastYear, psiIndex, varianceOf, priorMean, priorVariance, paid, incurred}
 
--- What the loss is made of. Means and observations are in ticks. The weights: p and q of the development years, s and t of the
--- priors, g of the ratios of incurred to paid.
+-- What the loss is made of. Means and observations are in ticks. The weights: p of the observation x and q of the observation z of
+-- accident year i and development year j, s and t of the priors, g of the ratios of incurred to paid.
 pub record Chain : Type 0 where
   pub last : ℕ
-  pub p : ℕ → ℕ
-  pub q : ℕ → ℕ
+  pub p : ℕ → ℕ → ℕ
+  pub q : ℕ → ℕ → ℕ
   pub s : ℕ → ℕ
   pub t : ℕ → ℕ
   pub g : ℕ → ℕ
@@ -52,11 +52,12 @@ incurredStep f i j = logOf (incurred f i (j + 1)) -ℤ logOf (incurred f i j)
 unfoldable pub lastRatio : Bytes → ℕ → ℤ
 lastRatio f i = logOf (incurred f i (lastYear f - i)) -ℤ logOf (paid f i (lastYear f - i))
 
+-- of a file: p_j and q_j are the same for every accident year
 abbrev pub chainOf : Bytes → Chain
 chainOf f = record {
   last = lastYear f;
-  p = λ j. weight (σ² f j);
-  q = λ j. weight (τ² f j);
+  p = λ i j. weight (σ² f j);
+  q = λ i j. weight (τ² f j);
   s = λ j. weight (priorVariance f j);
   t = λ j. weight (priorVariance f (psiIndex (lastYear f) j));
   g = λ k. weight (ratioVariance f k);

@@ -10,7 +10,7 @@ use Rattle.definitions.specs.Layout.{Bytes, parts}
 use Rattle.definitions.specs.Matrix.{Part, partOf, Figures, figuresOf}
 use Rattle.definitions.specs.Text.{ascii, space, lineFeed, decimal, signedDecimal, nameOf, indexOf, lines}
 use Rattle.definitions.specs.Machine.{Answer, refused, opened, judged, settled, going, written, part-shown, row-is-shown, closed}
-use Rattle.definitions.specs.Machine.{State, empty, holds, pageIn, openCall, sweepCall}
+use Rattle.definitions.specs.Machine.{State, empty, holds, pageIn, theFile, openCall, sweepCall}
 
 -- ---- lines
 
@@ -49,16 +49,16 @@ abbrev pub Show : Type 0
 Show = Figures → List ℤ → ℕ → Bytes
 
 module _ (show : Show) where
-  abbrev pub shown : State Figures → Bytes
+  abbrev pub shown : State Bytes → Bytes
   shown empty = []
-  shown (holds F μ total) = show F μ total
+  shown (holds f μ total) = show (figuresOf f) μ total
 
-  unfoldable pub sweepText : State Figures → Bytes
-  sweepText st = let swept = sweepCall Figures figuresOf (λ F. F) st 4096 in printed (swept .answer) [] (λ total. shown (swept .state))
+  unfoldable pub sweepText : State Bytes → Bytes
+  sweepText st = let swept = sweepCall figuresOf st 4096 in printed (swept .answer) [] (λ total. shown (swept .state))
 
   unfoldable pub openText : Bytes → Bytes
   openText given =
-      let opening = openCall Figures figuresOf (λ F. F) empty given in
+      let opening = openCall theFile empty given in
       printed (opening .answer) (sweepText (opening .state)) (λ total. [])
 
   -- an input beyond 2,806 bytes is refused

@@ -14,7 +14,9 @@ use Rattle.laws.specs.Rows.{row-inside, row-some, row-shown}
 use Rattle.readings.specs.declared.rows.RowPlace.{RowPlace}
 use Rattle.readings.specs.Rows.{Places}
 use Rattle.chain.specs.Arrays.{figuresAt}
-use Rattle.holding.specs.State.{Held, stateOf}
+use Rattle.definitions.specs.Kept.{inSession}
+use Rattle.observations.specs.declared.Observations.{Observations}
+use Rattle.holding.specs.State.{Held, stateOf, sessionState}
 use Rattle.holding.specs.StateLaws.{stateOf-empty}
 use Rattle.opening.specs.declared.OpenAnswer.{OpenAnswer}
 use Rattle.opening.specs.declared.OpenAnswer.the-variants as O
@@ -53,16 +55,17 @@ itself F = F
 
 -- ---- open
 
-pub opens-told : (s : Held) (file : Bytes) (a : OpenAnswer) (t : Held) → OpenCall.Opens s file a t
-    → {r : Refusal} → r ≡ refusalTold (ofOpen a) → Opens s file r t
-opens-told s file a t h {r} e = record {
+pub opens-told : (s : Held) (o : Observations) (file : Bytes) (a : OpenAnswer) (t : Held) (p : Observations) → OpenCall.Opens s o file a t p
+    → {r : Refusal} → r ≡ refusalTold (ofOpen a) → Opens s o file r t p
+opens-told s o file a t p h {r} e = record {
   told = e ∙ ap refusalTold (h .answer);
-  numbered = never-0 (N.open-numbered D.Figures D.figuresOf itself (stateOf s) file);
+  numbered = never-0 (N.open-numbered inSession (sessionState o s) file);
   state = h .state;
   same = λ some. by-answer a (h .same) (λ none. some (ap (λ x. x .number) e ∙ none));
 }
   where
-    by-answer : (a : OpenAnswer) → ((number place : ℕ) → a ≡ O.Refused number place → t ≡ s) → refusalTold (ofOpen a) .number ≢ 0 → t ≡ s
+    by-answer : (a : OpenAnswer) → ((number place : ℕ) → a ≡ O.Refused number place → (t ≡ s) × (p ≡ o))
+        → refusalTold (ofOpen a) .number ≢ 0 → (t ≡ s) × (p ≡ o)
     by-answer O.Opened same some = absurd (some refl)
     by-answer (O.Refused number place) same some = same number place refl
 
@@ -77,7 +80,7 @@ pub judges-told : (s : Held) (lent : Bytes) (a : JudgeAnswer) → JudgeCall.Judg
     → Judges s lent r
 judges-told s lent a h {r} e = record {
   told = e ∙ ap judgeTold (h .answer);
-  numbered = never-0 (N.judge-numbered D.Figures D.figuresOf itself (stateOf s) lent);
+  numbered = never-0 (N.judge-numbered itself (stateOf s) lent);
   worth = λ f μ total open-file one. h .worth f μ total open-file (is-passed a (sym flag ∙ one));
   rounded = λ f μ total open-file c near. flag ∙ ap (λ x. told (ofJudge x) .passing) (h .rounded f μ total open-file c near);
 }
@@ -96,7 +99,7 @@ pub sweeps-told : (s : Held) (n : ℕ) (a : SweepAnswer) (t : Held) → SweepCal
     → {r : Swept} → r ≡ sweepTold (ofSweep a) → Sweeps s n r t
 sweeps-told s n a t h {r} e = record {
   told = e ∙ ap sweepTold (h .answer);
-  numbered = never-0 (N.sweep-numbered D.Figures D.figuresOf itself (stateOf s) n);
+  numbered = never-0 (N.sweep-numbered itself (stateOf s) n);
   state = h .state;
   same = λ some. by-answer a (h .same) (λ none. some (ap (λ x. x .refusal .number) e ∙ none));
   worth = λ f μ ν total before then one.
@@ -126,7 +129,7 @@ writes-told size text s before a after h {r} e = record {
 }
   where
     numbered : Numbered (writesTo size text (stateOf s) before .answer)
-    numbered = never-0 (N.write-numbered D.Figures D.figuresOf itself size text (stateOf s) before)
+    numbered = never-0 (N.write-numbered itself size text (stateOf s) before)
 
     is-written : (a : WriteAnswer) → ofWrite a ≡ writesTo size text (stateOf s) before .answer → refusalTold (ofWrite a) .number ≡ 0
         → a ≡ W.Written

@@ -8,14 +8,16 @@ use mathlib.Core.List.{List}
 use lib.IntN.{ℤ}
 use lib.ListN.{length, take, drop}
 use Rattle.definitions.specs.Words.{within, part}
-use Rattle.definitions.specs.Layout.{Bytes, lastYear, recordLength, meanOf}
+use Rattle.definitions.specs.Layout.{Bytes, lastYear, closeness, recordLength, meanOf}
 use Rattle.definitions.specs.Refusals.{clear, refuses, rowCheck, recordCheck}
+use Rattle.definitions.specs.Observations.{chainOf}
 use Rattle.definitions.specs.Sweep.{sweepLimit}
 use Rattle.definitions.specs.Page.{pageLength}
 use Rattle.definitions.specs.Machine.{Answer, refused, empty, rowPart, recordIn, pageIn}
 use Rattle.definitions.specs.Guarantee.{Guarantee, Rounded}
 use Rattle.chain.specs.Arrays.{figuresAt}
-use Rattle.holding.specs.State.{Held, stateOf, heldIn, HoldsFile}
+use Rattle.observations.specs.declared.Observations.{Observations}
+use Rattle.holding.specs.State.{Held, stateOf, heldIn, sessionState, HoldsFile}
 use Rattle.opening.specs.Opens.{opensTo}
 use Rattle.judging.specs.Judges.{judgesTo}
 use Rattle.sweeping.specs.Sweeps.{sweepsTo}
@@ -33,19 +35,20 @@ use Rattle.telling.specs.Told.{refusalTold, judgeTold, sweepTold, rowTold, syst
 abbrev pub Numbered : Answer → Type 0
 Numbered a = (place : ℕ) → a ≢ refused 0 place
 
-pub record Opens (s : Held) (file : Bytes) (r : Refusal) (t : Held) : Type 0 where
-  pub told : r ≡ refusalTold (opensTo (stateOf s) file .answer)
-  pub numbered : Numbered (opensTo (stateOf s) file .answer)
-  pub state : stateOf t ≡ opensTo (stateOf s) file .state
-  pub same : r .number ≢ 0 → t ≡ s
+pub record Opens (s : Held) (o : Observations) (file : Bytes) (r : Refusal) (t : Held) (p : Observations) : Type 0 where
+  pub told : r ≡ refusalTold (opensTo (sessionState o s) file .answer)
+  pub numbered : Numbered (opensTo (sessionState o s) file .answer)
+  pub state : sessionState p t ≡ opensTo (sessionState o s) file .state
+  pub same : r .number ≢ 0 → (t ≡ s) × (p ≡ o)
 
 pub record Judges (s : Held) (meanRecord : Bytes) (r : Judged) : Type 0 where
   pub told : r ≡ judgeTold (judgesTo (stateOf s) meanRecord)
   pub numbered : Numbered (judgesTo (stateOf s) meanRecord)
   pub worth : (f : Bytes) (μ : List ℤ) (total : ℕ) → HoldsFile s f μ total
-      → r .passed ≡ 1 → Guarantee f (part (meanOf (lastYear f) meanRecord))
+      → r .passed ≡ 1 → Guarantee (chainOf f) (closeness f) (part (meanOf (lastYear f) meanRecord))
   pub rounded : (f : Bytes) (μ : List ℤ) (total : ℕ) → HoldsFile s f μ total
-      → recordCheck (lastYear f) meanRecord ≡ clear → Rounded f (part (meanOf (lastYear f) meanRecord)) → r .passed ≡ 1
+      → recordCheck (lastYear f) meanRecord ≡ clear → Rounded (chainOf f) (closeness f) (part (meanOf (lastYear f) meanRecord))
+      → r .passed ≡ 1
 
 pub record Sweeps (s : Held) (n : ℕ) (r : Swept) (t : Held) : Type 0 where
   pub told : r ≡ sweepTold (sweepsTo (stateOf s) n .answer)
@@ -53,15 +56,15 @@ pub record Sweeps (s : Held) (n : ℕ) (r : Swept) (t : Held) : Type 0 where
   pub state : stateOf t ≡ sweepsTo (stateOf s) n .state
   pub same : r .refusal .number ≢ 0 → t ≡ s
   pub worth : (f : Bytes) (μ ν : List ℤ) (total : ℕ) → HoldsFile s f μ total → HoldsFile t f ν (r .total)
-      → r .settled ≡ 1 → Guarantee f (part ν)
+      → r .settled ≡ 1 → Guarantee (chainOf f) (closeness f) (part ν)
   pub rounded : (f : Bytes) (μ ν : List ℤ) (total after : ℕ) → HoldsFile s f μ total → HoldsFile t f ν after
-      → within 1 sweepLimit n ≡ true → Rounded f (part ν) → r .settled ≡ 1
+      → within 1 sweepLimit n ≡ true → Rounded (chainOf f) (closeness f) (part ν) → r .settled ≡ 1
 
 pub record Writes (size : ℕ → ℕ) (text : Text) (s : Held) (before : Bytes) (r : Refusal) (after : Bytes) : Type 0 where
   pub told : r ≡ refusalTold (writesTo size text (stateOf s) before .answer)
   pub numbered : Numbered (writesTo size text (stateOf s) before .answer)
   pub buffer : after ≡ writesTo size text (stateOf s) before .buffer
-  pub worth : (f : Bytes) (μ : List ℤ) (total : ℕ) → HoldsFile s f μ total → r .number ≡ 0 → Guarantee f (part μ)
+  pub worth : (f : Bytes) (μ : List ℤ) (total : ℕ) → HoldsFile s f μ total → r .number ≡ 0 → Guarantee (chainOf f) (closeness f) (part μ)
 
 abbrev pub Reads : Held → Bytes → Refusal → Bytes → Type 0
 Reads = Writes recordLength recordIn

@@ -1,3 +1,5 @@
+pub mod Sizes
 pub mod Calls
 pub mod CallLaws
 pub mod Pinned
+pub mod PinnedSession

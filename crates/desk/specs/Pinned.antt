@@ -16,7 +16,8 @@ use Rattle.definitions.specs.Machine.{refused, empty, holds, rowPart, writeCall
 use Rattle.definitions.specs.Page.{pageOf}
 use Rattle.laws.specs.Tables.{tab-at}
 use Rattle.laws.specs.Pinned.{Worth, worth, Near, rounded}
-use Rattle.holding.specs.State.{Held, stateOf, heldIn, HoldsFile}
+use Rattle.observations.specs.declared.Observations.{Observations}
+use Rattle.holding.specs.State.{Held, stateOf, heldIn, sessionState, HoldsFile}
 use Rattle.opening.specs.Opens.{opensTo}
 use Rattle.judging.specs.Judges.{judgesTo}
 use Rattle.sweeping.specs.Sweeps.{sweepsTo}
@@ -37,17 +38,17 @@ refusal number place = record { number = number; place = place }
 
 -- what C gets and what is left, by the machine's outcome; a call that is refused leaves the session as it was
 module _ (s t : Held) where
-  module _ (file : Bytes) (r : Refusal) (call : Opens s file r t) where
-    pub open-told : r ≡ refusalTold (opensTo (stateOf s) file .answer)
+  module _ (o p : Observations) (file : Bytes) (r : Refusal) (call : Opens s o file r t p) where
+    pub open-told : r ≡ refusalTold (opensTo (sessionState o s) file .answer)
     open-told = call .told
 
-    pub open-state : stateOf t ≡ opensTo (stateOf s) file .state
+    pub open-state : sessionState p t ≡ opensTo (sessionState o s) file .state
     open-state = call .state
 
-    pub open-refused : r .number ≢ 0 → t ≡ s
+    pub open-refused : r .number ≢ 0 → (t ≡ s) × (p ≡ o)
     open-refused = call .same
 
-    pub open-numbered : (place : ℕ) → opensTo (stateOf s) file .answer ≢ refused 0 place
+    pub open-numbered : (place : ℕ) → opensTo (sessionState o s) file .answer ≢ refused 0 place
     open-numbered = call .numbered
 
   module _ (n : ℕ) (r : Swept) (call : Sweeps s n r t) where

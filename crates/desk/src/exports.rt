@@ -1,4 +1,5 @@
 // What C calls. `held` has J (0 while nothing is open), the closeness and the sweeps run since open.
+ghost use Rattle.observations.specs.Arrays.{observationsAt};
 ghost use Rattle.holding.specs.State.{heldIn};
 ghost use Rattle.desk.specs.Calls.{Opens, Judges, Sweeps, Reads, Pages, Shows, Closes, ShowsRow};
 use layout::checks::Check;
@@ -29,14 +30,29 @@ pub extern "C" fn desk_open_lent<'a>(
     matrix: &'a mut [i64; 961],
     right_hand: &'a mut [i64; 31],
     mean: &'a mut [i64; 31],
+    ticks: &'a mut [i64; 303],
+    weights: &'a mut [u64; 77],
+    variances: &'a mut [u64; 31],
     file: &'a [u8],
 ) -> Refusal
     ensures { λ r. ⌜ Opens
         (heldIn (now (held .entry)) (now (own .entry)) (now (matrix .entry)) (now («right_hand» .entry)) (now (mean .entry)))
+        (observationsAt (now (ticks .entry)) (now (weights .entry)) (now (variances .entry)))
         (now (file .entry)) r
-        (heldIn (now (held .exit)) (now (own .exit)) (now (matrix .exit)) (now («right_hand» .exit)) (now (mean .exit))) ⌝ }
+        (heldIn (now (held .exit)) (now (own .exit)) (now (matrix .exit)) (now («right_hand» .exit)) (now (mean .exit)))
+        (observationsAt (now (ticks .exit)) (now (weights .exit)) (now (variances .exit))) ⌝ }
 {
-    open_told(open_lent(held, own, matrix, right_hand, mean, file))
+    open_told(open_lent(
+        held,
+        own,
+        matrix,
+        right_hand,
+        mean,
+        ticks,
+        weights,
+        variances,
+        file,
+    ))
 }
 
 // 21, then 1, 2, 4 and 11.

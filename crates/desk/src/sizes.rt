@@ -1,40 +1,16 @@
-// The sizes that a caller has to keep to, told by the library so that whoever declares its calls elsewhere can compare.
-ghost use Prim.Native.Nat.{_*_};
+// The sizes of a session's arrays, told by the library so that whoever declares its calls elsewhere can compare.
 ghost use mathlib.Core.Path.{_≡_};
-ghost use Rattle.definitions.specs.Layout.{parts, fileLength, recordLength};
-ghost use Rattle.definitions.specs.Refusals.{yearLimit};
+ghost use Rattle.desk.specs.Sizes.{sizeOf};
 
-// Of each array of a session how many numbers it holds, 8 bytes each; of the longest file and mean record how many bytes.
-#[repr(C)]
-pub struct Sizes {
-    pub held: u64,
-    pub own: u64,
-    pub matrix: u64,
-    pub right_hand: u64,
-    pub mean: u64,
-    pub longest_file: u64,
-    pub longest_record: u64,
-}
-
+// How many numbers of 8 bytes an array of a session has, by its place among those that open is lent; behind the last one there is none.
+// One number is answered for one: an answer that grew with the session would be written behind what an older program keeps for it.
 #[no_mangle]
-pub extern "C" fn desk_sizes() -> Sizes
-    ensures { λ r. ⌜ r ≡ record {
-      held = 3;
-      own = parts yearLimit;
-      matrix = parts yearLimit * parts yearLimit;
-      «right_hand» = parts yearLimit;
-      mean = parts yearLimit;
-      «longest_file» = fileLength yearLimit;
-      «longest_record» = recordLength yearLimit;
-    } ⌝ }
+pub extern "C" fn desk_size(array: u64) -> u64
+    ensures { λ r. ⌜ r ≡ sizeOf array ⌝ }
 {
-    Sizes {
-        held: 3,
-        own: 31,
-        matrix: 961,
-        right_hand: 31,
-        mean: 31,
-        longest_file: 2806,
-        longest_record: 129,
+    let sizes = [3u64, 31, 961, 31, 31, 303, 77, 31];
+    if 8 <= array {
+        return 0;
     }
+    sizes[array as usize]
 }

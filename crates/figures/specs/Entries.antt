@@ -11,7 +11,7 @@ use Rattle.definitions.specs.Layout.{parts}
 use Rattle.definitions.specs.Refusals.{yearLimit}
 use Rattle.definitions.specs.Matrix.{Part, Φ, Ψ, partOf}
 use Rattle.laws.specs.Ranks.{rankOf, signOf}
-use Rattle.figures.specs.Weights.{at}
+use Rattle.observations.specs.Arrays.{at}
 
 -- the matrix by ranks, of arrays: what two parts share, and on the diagonal the own weight besides
 abbrev pub shareOf : List ℤ → ℕ → ℕ → ℕ → ℤ

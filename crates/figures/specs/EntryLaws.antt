@@ -19,7 +19,7 @@ use Rattle.definitions.specs.Words.{part}
 use Rattle.definitions.specs.Layout.{parts}
 use Rattle.definitions.specs.Matrix.{Part, Φ, Ψ, partOf}
 use Rattle.laws.specs.Ranks.{rankOf, signOf, rank-below, partOf-phi, partOf-psi}
-use Rattle.figures.specs.Weights.{at}
+use Rattle.observations.specs.Arrays.{at}
 use Rattle.figures.specs.Entries.{shareOf, entryOf, Stretch, Turned, runOf, ofKind, sharedBy, RowOf, RowsTo}
 
 -- ---- the kind of a part

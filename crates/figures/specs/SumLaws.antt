@@ -9,7 +9,7 @@ use native.Mathlib.Decide.{ℕ-discrete, decLe}
 use lib.IntN.{ℤ, pos, natAbs, _+ℤ_, _-ℤ_, _*ℤ_}
 use Rattle.integers.specs.Ring.{*ℤ-idl}
 use Rattle.integers.specs.Solver.{ring, _⊠_, ⊖_, num, _≐_}
-use Rattle.integers.specs.Size.{natAbs--}
+use Rattle.integers.specs.Size.{natAbs--, natAbs-*-≤}
 use Rattle.integers.specs.Sum.{sum}
 use Rattle.integers.specs.Total.{total-bound, sum-size}
 use Rattle.definitions.specs.Words.{part}
@@ -18,9 +18,9 @@ use Rattle.definitions.specs.Matrix.{Φ, partOf}
 use Rattle.laws.specs.Cells.{cell-below}
 use Rattle.laws.specs.Ranks.{rankOf, signOf, partOf-phi}
 use Rattle.row_starts.specs.Starts.{starts-at}
-use Rattle.figures.specs.Weights.{at}
+use Rattle.observations.specs.Arrays.{at, meanAt, priorAt, ratioAt}
 use Rattle.figures.specs.EntryLaws.{part-psi}
-use Rattle.figures.specs.Sums.{Logs, OfRows, stepOf, stepSum, startSum, columnOf, columnSum, targetFrom, lastCell}
+use Rattle.figures.specs.Sums.{Logs, OfRows, stepOf, stepSum, startSum, columnOf, columnSum, targetFrom, lastCell, ratioOf, ratioSum}
 
 -- the start of a row, as it is read
 pub row-at : {logs : List ℤ} {starts : List ℕ} {last : ℕ} → OfRows logs starts last → (i : ℕ) → i ≤ last → at starts i ≡ rowStart last i
@@ -40,6 +40,24 @@ sum-small n f few small = omega (arith, sum-size n f, total-bound n (2 ^ 58) {f 
 
 pub lastCell-below : (J d : ℕ) → d ≤ J → lastCell J d < cells J
 lastCell-below J d below = cell-below J (J - d) d (omega arith)
+
+-- ---- the ratios of the accident years
+
+pub ratioOf-small : (logs : List ℤ) (J d : ℕ) → Logs logs J → d ≤ J → natAbs (ratioOf logs J d) ≤ 2 ^ 27
+ratioOf-small logs J d h few =
+    let below = lastCell-below J d few in
+    difference-small logs J (cells J + lastCell J d) (lastCell J d) h (omega arith) (omega arith)
+
+pub ratioSum-small : (weights : List ℕ) (logs : List ℤ) (J n : ℕ) → Logs logs J → ((d : ℕ) → d < J → ratioAt weights d ≤ 2 ^ 27) → n ≤ J
+    → natAbs (ratioSum weights logs J n) ≤ 2 ^ 58
+ratioSum-small weights logs J n h small few = omega (arith, h .few, sum-size n term, total-bound n (2 ^ 54) each)
+  where
+    term : ℕ → ℤ
+    term d = pos (ratioAt weights d) *ℤ ratioOf logs J d
+
+    each : (d : ℕ) → d < n → natAbs (term d) ≤ 2 ^ 54
+    each d below =
+        natAbs-*-≤ (pos (ratioAt weights d)) (ratioOf logs J d) (small d (omega arith)) (ratioOf-small logs J d h (omega arith))
 
 -- ---- a part's own observations, by its index
 
@@ -103,20 +121,20 @@ columnSum-small logs J k h = by-kind (ℕ-discrete k 0) (decLe k J)
 
 -- ---- the right-hand side of a Φ and of a Ψ
 
-module _ (s : List ℕ) (prior : List ℤ) (p : List ℕ) (sums ratios : List ℤ) (J k : ℕ) where
+module _ (weights : List ℕ) (ticks sums ratios : List ℤ) (J k : ℕ) where
   -- the part's prior and its own observations
   abbrev pub ownSide : ℤ
-  ownSide = pos (at s k) *ℤ part prior k +ℤ pos (at p k) *ℤ part sums k
+  ownSide = pos (priorAt weights k) *ℤ meanAt ticks k +ℤ pos (at weights k) *ℤ part sums k
 
   -- the ratios that it shares in
   abbrev pub shared : ℤ
   shared = part ratios (rankOf (partOf J k))
 
-  pub target-phi : k ≤ J → ownSide +ℤ shared ≡ targetFrom s prior p sums ratios J k
+  pub target-phi : k ≤ J → ownSide +ℤ shared ≡ targetFrom weights ticks sums ratios J k
   unfolding targetFrom
   target-phi few = ap (λ z. ownSide +ℤ z) (sym (ap (λ a. signOf a *ℤ shared) (partOf-phi J k few) ∙ *ℤ-idl shared))
 
-  pub target-psi : J < k → ownSide -ℤ shared ≡ targetFrom s prior p sums ratios J k
+  pub target-psi : J < k → ownSide -ℤ shared ≡ targetFrom weights ticks sums ratios J k
   unfolding targetFrom
   target-psi past =
       ap (λ z. ownSide +ℤ z)

@@ -1,4 +1,4 @@
--- The contracts of the right-hand side, over an array of logarithms: cell c of the two blocks has the logarithm c.
+-- The contracts of the right-hand side, over the arrays of ticks and weights: cell c of the two blocks has the logarithm c.
 use Prim.Native.Nat.{ℕ, zero, suc, _+_, _*_, _-_, _^_, _≤_, _<_}
 use mathlib.Core.Path.{_≡_}
 use mathlib.Core.List.{List}
@@ -11,7 +11,7 @@ use Rattle.definitions.specs.Matrix.{Part, Φ, Ψ, partOf}
 use Rattle.laws.specs.Ranks.{rankOf, signOf}
 use Rattle.laws.specs.Filled.{Filled}
 use Rattle.row_starts.specs.Starts.{Starts}
-use Rattle.figures.specs.Weights.{at}
+use Rattle.observations.specs.Arrays.{at, meanAt, priorAt, ratioAt}
 
 -- every logarithm is at most 2^26 in size
 pub record Logs (logs : List ℤ) (last : ℕ) : Type 0 where
@@ -64,33 +64,35 @@ lastCell J d = rowStart J (J - d) + d
 abbrev pub ratioOf : List ℤ → ℕ → ℕ → ℤ
 ratioOf logs J d = part logs (cells J + lastCell J d) -ℤ part logs (lastCell J d)
 
-pub record OfRatios (g : List ℕ) (logs : List ℤ) (starts : List ℕ) (last : ℕ) : Type 0 where
+pub record OfRatios (weights : List ℕ) (logs : List ℤ) (starts : List ℕ) (last : ℕ) : Type 0 where
   pub of-rows : OfRows logs starts last
-  pub weights-small : (d : ℕ) → d < last → at g d ≤ 2 ^ 27
+  pub weights-small : (d : ℕ) → d < last → ratioAt weights d ≤ 2 ^ 27
 
 abbrev pub ratioSum : List ℕ → List ℤ → ℕ → ℕ → ℤ
-ratioSum g logs J n = sum n (λ d. pos (at g d) *ℤ ratioOf logs J d)
+ratioSum weights logs J n = sum n (λ d. pos (ratioAt weights d) *ℤ ratioOf logs J d)
 
-pub record RatioSums (g : List ℕ) (logs : List ℤ) (last : ℕ) (r : List ℤ) : Type 0 where
-  pub is : (n : ℕ) → n ≤ last → part r n ≡ ratioSum g logs last n
+pub record RatioSums (weights : List ℕ) (logs : List ℤ) (last : ℕ) (r : List ℤ) : Type 0 where
+  pub is : (n : ℕ) → n ≤ last → part r n ≡ ratioSum weights logs last n
 
 -- ---- right-hand side
 
-pub record OfTargets (s : List ℕ) (prior : List ℤ) (p : List ℕ) (sums ratios : List ℤ) (last : ℕ) : Type 0 where
+pub record OfTargets (weights : List ℕ) (ticks sums ratios : List ℤ) (last : ℕ) : Type 0 where
   pub few : last ≤ yearLimit
-  pub priors-small : (k : ℕ) → k < parts last → at s k ≤ 2 ^ 28
-  pub means-small : (k : ℕ) → k < parts last → natAbs (part prior k) ≤ 2 ^ 26
-  pub columns-small : (k : ℕ) → k < parts last → at p k ≤ 2 ^ 28
+  pub columns-small : (k : ℕ) → k < parts last → at weights k ≤ 2 ^ 28
+  pub priors-small : (k : ℕ) → k < parts last → priorAt weights k ≤ 2 ^ 28
+  pub means-small : (k : ℕ) → k < parts last → natAbs (meanAt ticks k) ≤ 2 ^ 26
   pub sums-small : (k : ℕ) → k < parts last → natAbs (part sums k) ≤ 2 ^ 31
   pub ratios-small : (n : ℕ) → n ≤ last → natAbs (part ratios n) ≤ 2 ^ 58
 
-pub record OfTarget (s : List ℕ) (prior : List ℤ) (p : List ℕ) (sums ratios : List ℤ) (last k : ℕ) : Type 0 where
-  pub of-targets : OfTargets s prior p sums ratios last
+pub record OfTarget (weights : List ℕ) (ticks sums ratios : List ℤ) (last k : ℕ) : Type 0 where
+  pub of-targets : OfTargets weights ticks sums ratios last
   pub below : k < parts last
 
-unfoldable pub targetFrom : List ℕ → List ℤ → List ℕ → List ℤ → List ℤ → ℕ → ℕ → ℤ
-targetFrom s prior p sums ratios J k =
-    pos (at s k) *ℤ part prior k +ℤ pos (at p k) *ℤ part sums k +ℤ signOf (partOf J k) *ℤ part ratios (rankOf (partOf J k))
+-- the prior and the part's own observations, and the ratios that it shares in
+unfoldable pub targetFrom : List ℕ → List ℤ → List ℤ → List ℤ → ℕ → ℕ → ℤ
+targetFrom weights ticks sums ratios J k =
+    pos (priorAt weights k) *ℤ meanAt ticks k +ℤ pos (at weights k) *ℤ part sums k
+    +ℤ signOf (partOf J k) *ℤ part ratios (rankOf (partOf J k))
 
-pub record Targets (s : List ℕ) (prior : List ℤ) (p : List ℕ) (sums ratios : List ℤ) (last : ℕ) (r : List ℤ) : Type 0 where
-  pub filled : Filled 31 (parts last) (pos 0) (targetFrom s prior p sums ratios last) r
+pub record Targets (weights : List ℕ) (ticks sums ratios : List ℤ) (last : ℕ) (r : List ℤ) : Type 0 where
+  pub filled : Filled 31 (parts last) (pos 0) (targetFrom weights ticks sums ratios last) r

@@ -1,4 +1,4 @@
-// The right-hand side, from the logarithms of the amounts, the weights and the prior means.
+// The right-hand side, from the logarithms of the amounts, the prior means and the weights.
 ghost use mathlib.Core.Path.{_≡_};
 ghost use Rattle.figures.specs.Sums.{
   OfRows,
@@ -17,69 +17,72 @@ ghost use Rattle.figures.specs.Sums.{
 };
 use crate::matrix::rank_of;
 use layout::places::cells_of;
+use observations::PRIOR_MEANS;
+use observations::PRIOR_WEIGHTS;
+use observations::RATIO_WEIGHTS;
 
 // Σ over the accident years of the step from a column of a block to the next: the next cell's logarithm less the cell's.
 fn step_sum<'a>(
-    logs: &'a [i64; 272],
+    ticks: &'a [i64; 303],
     starts: &'a [usize; 16],
     last: u8,
     block: usize,
     column: usize,
 ) -> i64
-    requires { ⌜ OfSteps (now logs) (now starts) last block column ⌝ }
-    ensures { λ r. ⌜ r ≡ stepSum (now (logs .entry)) last block column ⌝ }
+    requires { ⌜ OfSteps (now ticks) (now starts) last block column ⌝ }
+    ensures { λ r. ⌜ r ≡ stepSum (now (ticks .entry)) last block column ⌝ }
 {
     let count = last as usize - column;
     let mut total = 0i64;
     let mut i = 0usize;
     while i < count {
         let at = block + (starts[i] + column);
-        total += logs[at + 1] - logs[at];
+        total += ticks[at + 1] - ticks[at];
         i += 1;
     }
     total
 }
 
 // Σ of the logarithms of each year's first paid amount.
-fn start_sum<'a>(logs: &'a [i64; 272], starts: &'a [usize; 16], last: u8) -> i64
-    requires { ⌜ OfRows (now logs) (now starts) last ⌝ }
-    ensures { λ r. ⌜ r ≡ startSum (now (logs .entry)) last ⌝ }
+fn start_sum<'a>(ticks: &'a [i64; 303], starts: &'a [usize; 16], last: u8) -> i64
+    requires { ⌜ OfRows (now ticks) (now starts) last ⌝ }
+    ensures { λ r. ⌜ r ≡ startSum (now (ticks .entry)) last ⌝ }
 {
     let count = last as usize + 1;
     let mut total = 0i64;
     let mut i = 0usize;
     while i < count {
-        total += logs[starts[i]];
+        total += ticks[starts[i]];
         i += 1;
     }
     total
 }
 
 // Σ of a part's own observations.
-fn column_sum<'a>(logs: &'a [i64; 272], starts: &'a [usize; 16], last: u8, k: usize) -> i64
-    requires { ⌜ OfColumn (now logs) (now starts) last k ⌝ }
-    ensures { λ r. ⌜ r ≡ columnSum (now (logs .entry)) last k ⌝ }
+fn column_sum<'a>(ticks: &'a [i64; 303], starts: &'a [usize; 16], last: u8, k: usize) -> i64
+    requires { ⌜ OfColumn (now ticks) (now starts) last k ⌝ }
+    ensures { λ r. ⌜ r ≡ columnSum (now (ticks .entry)) last k ⌝ }
 {
     if k == 0 {
-        return start_sum(logs, starts, last);
+        return start_sum(ticks, starts, last);
     }
     let years = last as usize;
     if k <= years {
-        return step_sum(logs, starts, last, 0, k - 1);
+        return step_sum(ticks, starts, last, 0, k - 1);
     }
-    step_sum(logs, starts, last, cells_of(last), k - years - 1)
+    step_sum(ticks, starts, last, cells_of(last), k - years - 1)
 }
 
 // Those of every part.
-pub fn column_sums<'a>(logs: &'a [i64; 272], starts: &'a [usize; 16], last: u8) -> [i64; 31]
-    requires { ⌜ OfRows (now logs) (now starts) last ⌝ }
-    ensures { λ r. ⌜ ColumnSums (now (logs .entry)) last r ⌝ }
+pub fn column_sums<'a>(ticks: &'a [i64; 303], starts: &'a [usize; 16], last: u8) -> [i64; 31]
+    requires { ⌜ OfRows (now ticks) (now starts) last ⌝ }
+    ensures { λ r. ⌜ ColumnSums (now (ticks .entry)) last r ⌝ }
 {
     let count = 2 * (last as usize) + 1;
     let mut sums = [0i64; 31];
     let mut k = 0usize;
     while k < count {
-        let sum = column_sum(logs, starts, last, k);
+        let sum = column_sum(ticks, starts, last, k);
         sums[k] = sum;
         k += 1;
     }
@@ -89,13 +92,13 @@ pub fn column_sums<'a>(logs: &'a [i64; 272], starts: &'a [usize; 16], last: u8) 
 // The sums of g times y over the first n development years, for n = 0..J. Development year d is the last one of the accident
 // year J − d.
 pub fn ratio_sums<'a>(
-    weights: &'a [u64; 15],
-    logs: &'a [i64; 272],
+    weights: &'a [u64; 77],
+    ticks: &'a [i64; 303],
     starts: &'a [usize; 16],
     last: u8,
 ) -> [i64; 16]
-    requires { ⌜ OfRatios (now weights) (now logs) (now starts) last ⌝ }
-    ensures { λ r. ⌜ RatioSums (now (weights .entry)) (now (logs .entry)) last r ⌝ }
+    requires { ⌜ OfRatios (now weights) (now ticks) (now starts) last ⌝ }
+    ensures { λ r. ⌜ RatioSums (now (weights .entry)) (now (ticks .entry)) last r ⌝ }
 {
     let years = last as usize;
     let cells = cells_of(last);
@@ -105,7 +108,7 @@ pub fn ratio_sums<'a>(
     while d < years {
         let year = years - d;
         let at = starts[year] + d;
-        total += weights[d] as i64 * (logs[cells + at] - logs[at]);
+        total += weights[RATIO_WEIGHTS + d] as i64 * (ticks[cells + at] - ticks[at]);
         d += 1;
         sums[d] = total;
     }
@@ -114,19 +117,18 @@ pub fn ratio_sums<'a>(
 
 // One part's right-hand side: its prior, its own observations, and the ratios that it shares in, which count against a Ψ.
 fn right_hand_at<'a>(
-    priors: &'a [u64; 31],
-    means: &'a [i64; 31],
-    columns: &'a [u64; 31],
+    weights: &'a [u64; 77],
+    ticks: &'a [i64; 303],
     sums: &'a [i64; 31],
     ratios: &'a [i64; 16],
     last: u8,
     k: usize,
 ) -> i64
-    requires { ⌜ OfTarget (now priors) (now means) (now columns) (now sums) (now ratios) last k ⌝ }
-    ensures { λ r. ⌜ r ≡ targetFrom
-        (now (priors .entry)) (now (means .entry)) (now (columns .entry)) (now (sums .entry)) (now (ratios .entry)) last k ⌝ }
+    requires { ⌜ OfTarget (now weights) (now ticks) (now sums) (now ratios) last k ⌝ }
+    ensures { λ r. ⌜ r ≡ targetFrom (now (weights .entry)) (now (ticks .entry)) (now (sums .entry)) (now (ratios .entry)) last k ⌝ }
 {
-    let own = priors[k] as i64 * means[k] + columns[k] as i64 * sums[k];
+    let prior = weights[PRIOR_WEIGHTS + k] as i64 * ticks[PRIOR_MEANS + k];
+    let own = prior + weights[k] as i64 * sums[k];
     let shared = ratios[rank_of(last, k)];
     if k <= last as usize {
         return own + shared;
@@ -135,22 +137,20 @@ fn right_hand_at<'a>(
 }
 
 pub fn right_hand_of<'a>(
-    priors: &'a [u64; 31],
-    means: &'a [i64; 31],
-    columns: &'a [u64; 31],
+    weights: &'a [u64; 77],
+    ticks: &'a [i64; 303],
     sums: &'a [i64; 31],
     ratios: &'a [i64; 16],
     last: u8,
 ) -> [i64; 31]
-    requires { ⌜ OfTargets (now priors) (now means) (now columns) (now sums) (now ratios) last ⌝ }
-    ensures { λ r. ⌜ Targets
-        (now (priors .entry)) (now (means .entry)) (now (columns .entry)) (now (sums .entry)) (now (ratios .entry)) last r ⌝ }
+    requires { ⌜ OfTargets (now weights) (now ticks) (now sums) (now ratios) last ⌝ }
+    ensures { λ r. ⌜ Targets (now (weights .entry)) (now (ticks .entry)) (now (sums .entry)) (now (ratios .entry)) last r ⌝ }
 {
     let count = 2 * (last as usize) + 1;
     let mut targets = [0i64; 31];
     let mut k = 0usize;
     while k < count {
-        let value = right_hand_at(priors, means, columns, sums, ratios, last, k);
+        let value = right_hand_at(weights, ticks, sums, ratios, last, k);
         targets[k] = value;
         k += 1;
     }

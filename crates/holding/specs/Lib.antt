@@ -1,6 +1,7 @@
 pub mod Decided
 pub mod State
 pub mod StateLaws
+pub mod SessionLaws
 pub mod Bounds
 pub mod Fitted
 pub mod Reached

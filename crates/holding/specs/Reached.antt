@@ -24,7 +24,7 @@ pub record Keeps (s : Held) (f : Bytes) (μ : List ℤ) (total : ℕ) : Type 0 w
 
 module _ (s : Held) (f : Bytes) (μ : List ℤ) (total : ℕ) (keeps : Keeps s f μ total) where
   same-year : s .figures .last ≡ lastYear f
-  unfolding figuresOf D.figuresOf
+  unfolding figuresOf D.figuresFrom
   same-year = ap (λ F. F .last) (keeps .figures)
 
   part-is : (k : ℕ) → k < parts (s .figures .last) → part (s .mean) k ≡ part μ k

@@ -18,6 +18,7 @@
 --   size                   natAbs-≤, natAbs-<, natAbs-parts                                                            Linear
 --                          natAbs-neg, natAbs-+, natAbs--, natAbs-*, natAbs-*-≤, natAbs-square                         Size
 --   signed bits            fits, kept                                                                                  Size
+--   read back, by its sign stored, read, same; negative, nonnegative, complement-negative, complement-nonnegative      Bits
 --   rounded down           floorDiv, floor-≤, floor-<                                                                  Floor
 --   what is summed         sum, and total over ℕ; `Sum` passes both on                                                 Summation
 --   sum, by one term       sum-zero, sum-suc, sum-next                                                                 Sum
@@ -27,7 +28,7 @@
 --   what a test picks      only, only-yes, only-no, only-same, only-apart                                              SumRange
 --   sum and order          sum-mono, sum-nonneg, sum-term, sum-positive                                                SumOrder
 --   sum of naturals        total-zero, total-suc, total-next, total-cong, total-+, total-scale-right,
---                          total-mono, total-bound, total-split, total-grows, total-term, pos-total                    Total
+--                          total-mono, total-bound, total-const, total-split, total-grows, total-term, pos-total                    Total
 --   sum of sizes           sizes, sum-size; else the laws of total                                                     Total
 --
 -- Names. A law is named by its left side read in order, as in the kit: `*ℤ-+ℤ` is about x · (y + z), `negℤ-*ℤ` about (−x) · y; so of
@@ -35,6 +36,7 @@
 -- `.1`; so do `pos-≤`, `pos-<`, `natAbs-≤` and `natAbs-<`. `-next` is at n + 1, as code counts, and `-suc` at `suc n`. `-mono` keeps an
 -- order and `-anti` turns it. `-nonneg` ends in 0 ≤ .., `-positive` in 0 < ... `_≤ℤ_` and `_<ℤ_` bind tighter than `_+ℤ_`: their sides
 -- stand in parentheses.
+pub mod Bits
 pub mod Certificate
 pub mod Floor
 pub mod Linear

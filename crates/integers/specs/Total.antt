@@ -41,7 +41,12 @@ unfolding total
 total-bound zero b h = zero-le
 total-bound (suc n) b h = omega (arith, total-bound n b (λ k l. h k (omega arith)), h n (omega arith))
 
--- the same where one term, the k-th, may be more by c
+pub total-const : (n b : ℕ) → total n (λ k. b) ≡ n * b
+unfolding total
+total-const zero b = omega arith
+total-const (suc n) b = rw (total-const n b) (omega arith)
+
+-- the bound where one term, the k-th, may be more by c
 pub total-bound-but-one : (n k b c : ℕ) {f : ℕ → ℕ} → ((i : ℕ) → i < n → i ≢ k → f i ≤ b) → (k < n → f k ≤ b + c) → total n f ≤ n * b + c
 unfolding total
 total-bound-but-one zero k b c others one = zero-le

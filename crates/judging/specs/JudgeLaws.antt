@@ -47,12 +47,12 @@ module _ (f : Bytes) (μ : List ℤ) (total : ℕ) (r : Bytes) where
   judgedTo = judgesTo (holds (D.figuresOf f) μ total) r
 
   passed-passes : judgedTo ≡ judged passed → passes (D.figuresOf f) (part (meanOf (lastYear f) r)) ≡ true
-  unfolding judgeCall D.figuresOf
+  unfolding judgeCall D.figuresFrom
   passed-passes e = ap isPassed (judged-same (refused-or (recordCheck (lastYear f) r) _ passed e))
 
   passes-passed : recordCheck (lastYear f) r ≡ clear → passes (D.figuresOf f) (part (meanOf (lastYear f) r)) ≡ true
       → judgedTo ≡ judged passed
-  unfolding judgeCall D.figuresOf
+  unfolding judgeCall D.figuresFrom
   passes-passed c e = rw c (ap judged (is-passed _ e))
 
 module _ (s : Held) (r : Bytes) where

@@ -5,9 +5,10 @@ use mathlib.Core.Path.{_≡_}
 use mathlib.Core.List.{List}
 use lib.IntN.{ℤ}
 use Rattle.definitions.specs.Words.{part}
-use Rattle.definitions.specs.Layout.{Bytes, lastYear, meanOf}
+use Rattle.definitions.specs.Layout.{Bytes, lastYear, closeness, meanOf}
 use Rattle.definitions.specs.Refusals.{clear, recordCheck}
-use Rattle.definitions.specs.Matrix.{Figures, figuresOf, passed, fails}
+use Rattle.definitions.specs.Observations.{chainOf}
+use Rattle.definitions.specs.Matrix.{Figures, passed, fails}
 use Rattle.definitions.specs.Machine as M
 use Rattle.definitions.specs.Machine.{Answer, judged, State, judgeCall}
 use Rattle.definitions.specs.Guarantee.{Guarantee, Rounded}
@@ -21,15 +22,15 @@ ofJudge Passed = judged passed
 ofJudge (Fails k) = judged (fails k)
 ofJudge (Refused number place) = M.refused number place
 
--- the machine on figures
+-- the machine on figures, which are all that it uses of what is kept
 abbrev pub judgesTo : State Figures → Bytes → Answer
-judgesTo = judgeCall Figures figuresOf (λ F. F)
+judgesTo = judgeCall (λ F. F)
 
 pub record Judges (s : Held) (meanRecord : Bytes) (r : JudgeAnswer) : Type 0 where
   pub answer : ofJudge r ≡ judgesTo (stateOf s) meanRecord
   -- whoever proposed the mean
   pub worth : (f : Bytes) (μ : List ℤ) (total : ℕ) → HoldsFile s f μ total
-      → r ≡ Passed → Guarantee f (part (meanOf (lastYear f) meanRecord))
+      → r ≡ Passed → Guarantee (chainOf f) (closeness f) (part (meanOf (lastYear f) meanRecord))
   -- a record that is not refused, of a rounded mean
   pub rounded : (f : Bytes) (μ : List ℤ) (total : ℕ) → HoldsFile s f μ total
-      → recordCheck (lastYear f) meanRecord ≡ clear → Rounded f (part (meanOf (lastYear f) meanRecord)) → r ≡ Passed
+      → recordCheck (lastYear f) meanRecord ≡ clear → Rounded (chainOf f) (closeness f) (part (meanOf (lastYear f) meanRecord)) → r ≡ Passed

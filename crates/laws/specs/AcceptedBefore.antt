@@ -6,19 +6,17 @@ use mathlib.Core.Bool.{true}
 use lib.Dec.{leb}
 use Rattle.definitions.specs.Layout.{Bytes, lastYear}
 use Rattle.definitions.specs.Refusals.{Check, unless, _then_, fileCheck, rowCheck, isClear, accepted}
-use Rattle.definitions.specs.Matrix.{Figures}
-use Rattle.definitions.specs.Machine.{empty, openUnless, openCall}
+use Rattle.definitions.specs.Machine.{Keeping, empty, openUnless, openCall}
 use Rattle.laws.specs.ClearChecks.{Kept}
 
 module _ (f : Bytes) (check : Check) (kept : Kept check (fileCheck f)) (was : isClear check ≡ true) where
   pub still-accepted : accepted f ≡ true
   still-accepted = ap isClear (sym (kept was)) ∙ was
 
-  -- open, of an empty session: the same figures are held, or whatever else is kept of the file, the same mean and the same total
-  pub opened-alike : (X : Type 0) (keep : Bytes → X) (figures : X → Figures)
-      → openUnless X keep figures check f ≡ openCall X keep figures empty f
+  -- open, of an empty session: the same is kept of the file, whatever it is, with the same mean and the same total
+  pub opened-alike : (X : Type 0) (K : Keeping X) → openUnless K check f ≡ openCall K empty f
   unfolding openCall
-  opened-alike X keep figures = ap (λ c. openUnless X keep figures c f) (kept was)
+  opened-alike X K = ap (λ c. openUnless K c f) (kept was)
 
   -- row, shown or told: with the same answer for every channel and year
   pub row-alike : (channel year : ℕ)

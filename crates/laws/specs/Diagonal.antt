@@ -1,4 +1,4 @@
--- The precision matrix is symmetric, and on its diagonal positive for every accepted file: no part lacks an observation, and so none
+-- The precision matrix is symmetric, and on its diagonal positive where the chain is carried: no part lacks an observation, and so none
 -- needs a prior.
 use Prim.Native.Nat.{ℕ, _+_, _*_, _<_, min}
 use mathlib.Core.Path.{_≡_, refl, sym, ap, ap₂, _∙_, subst}
@@ -11,11 +11,10 @@ use Rattle.integers.specs.Order.{pos-≤}
 use Rattle.integers.specs.Sum.{total}
 use Rattle.integers.specs.SumRange.{only, only-same}
 use Rattle.integers.specs.Total.{pos-total}
-use Rattle.definitions.specs.Layout.{Bytes, lastYear, parts}
-use Rattle.definitions.specs.Observations.{Chain, chainOf}
+use Rattle.definitions.specs.Layout.{parts}
+use Rattle.definitions.specs.Observations.{Chain}
 use Rattle.definitions.specs.Matrix.{Part, Φ, Ψ, partOf, own, matrix, sharedBy}
-use Rattle.laws.specs.Accepted.{AcceptedFile}
-use Rattle.laws.specs.FileBounds.{file-owned}
+use Rattle.laws.specs.Chains.{Carried, carried-owned}
 use Rattle.laws.specs.Ranks.{rankOf, signOf, rankEntry, matrix-by-ranks, same-index}
 
 module _ (c : Chain) where
@@ -59,9 +58,6 @@ module _ (c : Chain) where
           whole : (n : ℕ) → 1 * n ≡ n
           whole n = omega arith
 
--- ---- of an accepted file
-
-module _ (f : Bytes) (h : AcceptedFile f) where
-  pub diagonal-positive : (k : ℕ) → k < parts (lastYear f) → pos 1 ≤ℤ matrix (chainOf f) k k
-  diagonal-positive k below =
-      subst (λ a. pos 1 ≤ℤ a) (sym (diagonal-is (chainOf f) k below)) (pos-≤ .0 (omega (arith, file-owned f h .owned k below)))
+  pub diagonal-positive : Carried c → (k : ℕ) → k < parts (c .last) → pos 1 ≤ℤ matrix c k k
+  diagonal-positive h k below =
+      subst (λ a. pos 1 ≤ℤ a) (sym (diagonal-is k below)) (pos-≤ .0 (omega (arith, carried-owned c h .owned k below)))

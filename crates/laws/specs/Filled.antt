@@ -44,12 +44,3 @@ module _ {A : Type 0} {size k : ℕ} {empty : A} {f : ℕ → A} {v : List A} wh
 
   pub filled-to : {n : ℕ} → k ≡ n → Filled size k empty f v → Filled size n empty f v
   filled-to e h = subst (λ i. Filled size i empty f v) e h
-
--- four numbers more
-pub filled-four : {A : Type 0} {size k : ℕ} {empty a b c d : A} {f : ℕ → A} {v : List A} → Filled size k empty f v → k + 4 ≤ size
-    → a ≡ f k → b ≡ f (k + 1) → c ≡ f (k + 2) → d ≡ f (k + 3)
-    → Filled size (k + 4) empty f (set (set (set (set v k a) (k + 1) b) (k + 2) c) (k + 3) d)
-filled-four {k = k} h room first second third fourth =
-    let two = filled-to {n = k + 2} (omega arith) (filled-next (filled-next h (omega arith) first) (omega arith) second) in
-    let three = filled-to {n = k + 3} (omega arith) (filled-next two (omega arith) third) in
-    filled-to (omega arith) (filled-next three (omega arith) fourth)

@@ -16,10 +16,12 @@ use Rattle.definitions.specs.Weight.{weight}
 use Rattle.definitions.specs.Refusals.{Check, _then_, fields, goodPriorVariance, fileCheck, accepted}
 use Rattle.definitions.specs.Refusals.{check1, check2, check3, check4, check5, check6, check7, check8, check9, check10}
 use Rattle.definitions.specs.Observations.{Chain, chainOf, σ², τ², paidStep, incurredStep}
-use Rattle.definitions.specs.Matrix.{ownOf, own, targetOf, rightHand, ratiosOfLast}
+use Rattle.definitions.specs.Matrix.{own, rightHand, ratiosOfLast}
 use Rattle.laws.specs.ClearChecks.{Kept, kept-first, kept-second, fields-kept, fields-same}
 use Rattle.laws.specs.Accepted.{within-yes, accepted-file}
-use Rattle.laws.specs.FileBounds.{p-from, q-from, column-p, column-q}
+use Rattle.laws.specs.Chains.{own-of-x, own-of-z}
+use Rattle.laws.specs.FileWeights.{p-from, q-from}
+use Rattle.laws.specs.Columns.{own-phi, own-psi, right-hand-phi, right-hand-psi}
 use Rattle.laws.specs.Ranks.{partOf-phi, partOf-psi}
 use Rattle.laws.specs.WeightLaws.{weight-of-none}
 
@@ -88,31 +90,27 @@ module _ (f : Bytes) where
 
   -- its own weight is that of its observations
   pub own-of-phi : (j : ℕ) → j ≤ J → priorVariance f j ≡ 0 → own c j ≡ (J - j + 1) * weight (σ² f j)
-  unfolding own
-  own-of-phi j below none = ap (ownOf c) (partOf-phi J j below) ∙ ap (λ w. w + (J - j + 1) * weight (σ² f j)) (no-weight none) ∙ omega arith
+  own-of-phi j below none = own-phi f j below ∙ ap (λ w. w + (J - j + 1) * weight (σ² f j)) (no-weight none) ∙ omega arith
 
   pub own-of-psi : (j : ℕ) → j < J → priorVariance f (psiIndex J j) ≡ 0 → own c (psiIndex J j) ≡ (J - j) * weight (τ² f j)
-  unfolding own
-  own-of-psi j below none = ap (ownOf c) (partOf-psi J j) ∙ ap (λ w. w + (J - j) * weight (τ² f j)) (no-weight none) ∙ omega arith
+  own-of-psi j below none = own-psi f j ∙ ap (λ w. w + (J - j) * weight (τ² f j)) (no-weight none) ∙ omega arith
 
   -- its prior mean counts in no equation: the sweep starts there, and that is all
   pub right-hand-of-phi : (j : ℕ) → j ≤ J → priorVariance f j ≡ 0
       → rightHand c j ≡ pos (weight (σ² f j)) *ℤ sum (J - j + 1) (λ i. paidStep f i j) +ℤ ratiosOfLast c j
-  unfolding rightHand
-  right-hand-of-phi j below none = ap (targetOf c) (partOf-phi J j below) ∙ rw (no-weight none, zero-*ℤ, +ℤ-idl) refl
+  right-hand-of-phi j below none = right-hand-phi f j below ∙ rw (no-weight none, zero-*ℤ, +ℤ-idl) refl
 
   pub right-hand-of-psi : (j : ℕ) → j < J → priorVariance f (psiIndex J j) ≡ 0
       → rightHand c (psiIndex J j) ≡ pos (weight (τ² f j)) *ℤ sum (J - j) (λ i. incurredStep f i j) -ℤ ratiosOfLast c (j + 1)
-  unfolding rightHand
-  right-hand-of-psi j below none = ap (targetOf c) (partOf-psi J j) ∙ rw (no-weight none, zero-*ℤ, +ℤ-idl) refl
+  right-hand-of-psi j below none = right-hand-psi f j ∙ rw (no-weight none, zero-*ℤ, +ℤ-idl) refl
 
   -- every own weight, whatever the prior, is at least the weight of one observation, which is at least 1
   pub observed-phi : accepted f ≡ true → (j : ℕ) → j ≤ J → (1 ≤ weight (σ² f j)) × (weight (σ² f j) ≤ own c j)
   unfolding own
   observed-phi yes-file j below =
-      let h = accepted-file f yes-file in (p-from f h j below, rw (partOf-phi J j below) (column-p f h j))
+      let h = accepted-file f yes-file in (p-from f h j below, rw (partOf-phi J j below) (own-of-x c 0 j (omega arith)))
 
   pub observed-psi : accepted f ≡ true → (j : ℕ) → j < J → (1 ≤ weight (τ² f j)) × (weight (τ² f j) ≤ own c (psiIndex J j))
   unfolding own
   observed-psi yes-file j below =
-      let h = accepted-file f yes-file in (q-from f h j below, rw (partOf-psi J j) (column-q f h j below))
+      let h = accepted-file f yes-file in (q-from f h j below, rw (partOf-psi J j) (own-of-z c 0 j (omega arith)))

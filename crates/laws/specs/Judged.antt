@@ -1,4 +1,4 @@
--- The test of a mean, part by part, in the terms of a file's matrix: passed exactly if every |residue| is at most e·D.
+-- The test of a mean, part by part, in the terms of a chain's matrix: passed exactly if every |residue| is at most e·D.
 use Prim.Native.Nat.{ℕ, zero, suc, _+_, _*_, _≤_, _<_, zero-le}
 use mathlib.Core.Path.{_≡_, refl, sym, ap, ap₂, _∙_, subst}
 use mathlib.Core.Logic.{_⊎_, inl, inr}
@@ -11,10 +11,10 @@ use lib.IntN.{pos, natAbs, _-ℤ_, _*ℤ_}
 use Rattle.integers.specs.Ring.{*ℤ-idl}
 use Rattle.integers.specs.Sum.{sum-cong}
 use Rattle.definitions.specs.Words.{tabFrom, part}
-use Rattle.definitions.specs.Layout.{Bytes, lastYear, closeness, parts}
+use Rattle.definitions.specs.Layout.{parts}
 use Rattle.definitions.specs.Loss.{Vector}
-use Rattle.definitions.specs.Observations.{Chain, chainOf}
-use Rattle.definitions.specs.Matrix.{own, matrix, rightHand, residueTimes, Figures, figuresOf, entry, residue, partPasses, judgeFrom, fails, isPassed, passes}
+use Rattle.definitions.specs.Observations.{Chain}
+use Rattle.definitions.specs.Matrix.{own, matrix, rightHand, residueTimes, Figures, figuresFrom, entry, residue, partPasses, judgeFrom, fails, isPassed, passes}
 use Rattle.laws.specs.Tables.{tab-at}
 
 -- ---- passed, part by part
@@ -44,50 +44,44 @@ module _ (F : Figures) (u : Vector) where
       by-test true t rest = rest
       by-test false t rest = absurd t
 
--- ---- the same over a file's own weights and matrix
+-- ---- the same over a chain's own weights and matrix
 
-module _ (f : Bytes) where
+module _ (c : Chain) (e : ℕ) where
   abbrev n : ℕ
-  n = parts (lastYear f)
-
-  abbrev c : Chain
-  c = chainOf f
-
-  abbrev e : ℕ
-  e = closeness f
+  n = parts (c .last)
 
   abbrev F : Figures
-  F = figuresOf f
+  F = figuresFrom c e
 
-  pub entry-of-file : (k l : ℕ) → k < n → l < n → entry F k l ≡ matrix c k l
-  unfolding figuresOf
-  entry-of-file k l k-below l-below =
+  pub entry-of-chain : (k l : ℕ) → k < n → l < n → entry F k l ≡ matrix c k l
+  unfolding figuresFrom
+  entry-of-chain k l k-below l-below =
       ap (λ row. part row l) (tab-at n (λ i. tabFrom 0 n (matrix c i)) k [] k-below) ∙ tab-at n (matrix c k) l (pos 0) l-below
 
   module _ (u : Vector) where
-    pub residue-of-file : (k : ℕ) → k < n → residue F u k ≡ residueTimes c 1 u k
-    unfolding residue residueTimes figuresOf
-    residue-of-file k below =
+    pub residue-of-chain : (k : ℕ) → k < n → residue F u k ≡ residueTimes c 1 u k
+    unfolding residue residueTimes figuresFrom
+    residue-of-chain k below =
         ap₂ _-ℤ_
-        (sum-cong n (λ l l-below. ap (λ z. z *ℤ u l) (entry-of-file k l below l-below)))
+        (sum-cong n (λ l l-below. ap (λ z. z *ℤ u l) (entry-of-chain k l below l-below)))
         (tab-at n (rightHand c) k (pos 0) below ∙ sym (*ℤ-idl (rightHand c k)))
 
     abbrev pub SmallResidues : Type 0
     SmallResidues = (k : ℕ) → k < n → natAbs (residueTimes c 1 u k) ≤ e * own c k
 
-    test-of-file : (k : ℕ) → k < n → partPasses F u k ≡ leb (natAbs (residueTimes c 1 u k)) (e * own c k)
-    unfolding figuresOf
-    test-of-file k below = ap₂ (λ r D. leb (natAbs r) (e * D)) (residue-of-file k below) (tab-at n (own c) k 0 below)
+    test-of-chain : (k : ℕ) → k < n → partPasses F u k ≡ leb (natAbs (residueTimes c 1 u k)) (e * own c k)
+    unfolding figuresFrom
+    test-of-chain k below = ap₂ (λ r D. leb (natAbs r) (e * D)) (residue-of-chain k below) (tab-at n (own c) k 0 below)
 
     pub small-of-passes : passes F u ≡ true → SmallResidues
-    unfolding figuresOf
+    unfolding figuresFrom
     small-of-passes h k below =
         leb→le (natAbs (residueTimes c 1 u k)) (e * own c k)
-        (subst T (test-of-file k below) (judged-passes F u 0 n h k zero-le (omega arith)))
+        (subst T (test-of-chain k below) (judged-passes F u 0 n h k zero-le (omega arith)))
 
     pub passes-of-small : SmallResidues → passes F u ≡ true
-    unfolding figuresOf
+    unfolding figuresFrom
     passes-of-small small =
         passes-judged F u 0 n (λ k _ to.
         let below : k < n = omega arith in
-        subst T (sym (test-of-file k below)) (le→leb (natAbs (residueTimes c 1 u k)) (e * own c k) (small k below)))
+        subst T (sym (test-of-chain k below)) (le→leb (natAbs (residueTimes c 1 u k)) (e * own c k) (small k below)))

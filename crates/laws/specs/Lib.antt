@@ -1,6 +1,7 @@
 -- What follows from the definitions: why the promises hold. To search, not to read.
 --   Tables            a tabulated list: its length, its elements, and two with the same
 --   Filled            an array that is filled from the front
+--   Runs              some elements of an array, by their places
 --   LogarithmBits     the bits of k squarings stand behind h, and are below 2^k; L is rounded by the last
 --   LogarithmBound    2^(2L) ≤ 2·a^(2T) < 2^(2L+3), by a law of any number of squarings; a logarithm is at most that of the limit
 --   LogarithmOrder    of two amounts the larger has no smaller logarithm
@@ -15,25 +16,28 @@
 --   PrecisionMatrix   the specification's matrix, right-hand side and residue are those of such a loss
 --   LossForm          and the specification's loss is that loss
 --   Theorem34         residue by the matrix = residue observation by observation; the expansion of the loss, in the specification's terms
+--   Sizes             the sizes of entries, rows, right-hand side and residues, over limits that are left open
+--   Chains            what is asked of a chain: bounded, for sizes; carried, for all else
+--   ChainLimits       the sizes of a bounded chain's figures, as numbers
+--   Columns           with one weight for a column, own weight and right-hand side in document 01's words
+--   FileWeights       the weights of an accepted file, each g at most those whose variances are in its sum: its chain is carried
+--   FileChain         the sizes of an accepted file's observations: its chain is bounded, and carried
 --   FormGuarantee     nearly least, near, strictly least, for such a loss
 --   Rounding          a mean within half a tick of a zero-residue vector has small residues
 --   Judged            passed exactly if every |residue| ≤ e·D
---   Demand3           DEMAND 3, whole, for every accepted file
+--   Demand3           DEMAND 3, whole, for every chain that is carried, and so for every accepted file
 --   Pinned            demand 3 at its very limits, so that no statement of it can be weakened
 --   Diagonal          the matrix is symmetric, its diagonal positive
 --   Number16          what 1 to 10 let through has a positive diagonal; open answers alike with number 16 behind them, which no call gives
 --   Rows              a row that is shown is inside its file and has an amount
---   Sizes             the sizes of entries, rows, right-hand side and residues, over limits that are left open
---   FileBounds        the weights of an accepted file, and that each g is at most the weights whose variances are in its sum
 --   FlatPriors        number 7 with priors of no weight and without, side by side; what a part without a prior rests on
 --   PinnedPriors      both once more, in plain numbers
 --   LargerAmounts     number 9 with amounts to 2^44 and to 2^40, side by side
---   FileLimits        the sizes of an accepted file's figures, as numbers
 --   PinnedAmounts     both once more, in plain numbers
 --   StepLaws          one step of a sweep: one part changes, stays inside, residues follow
 --   SweepLaws         no step and no sweep raises the loss; a swept mean stays inside the limits
---   MachineLaws       the machine runs on a file's figures; every state that calls reach is empty, or an accepted file with a mean
---                     inside the limits and a total ≤ 4,096
+--   MachineLaws       the machine answers alike on what a session keeps; every state that calls reach is empty, or an accepted file with
+--                     a mean inside the limits and a total ≤ 4,096
 --   Decimal           numbers as text: how many bytes they have, and that they are read back whole
 --   Lines             texts of lines: where each line stands, and that lines which end alike are told apart
 --   Pages             every value fits its columns, and two different means never share a page
@@ -42,6 +46,7 @@
 --   Numbers           a refusal has a number of the table
 pub mod Tables
 pub mod Filled
+pub mod Runs
 pub mod LogarithmBits
 pub mod LogarithmBound
 pub mod LogarithmOrder
@@ -56,6 +61,12 @@ pub mod Quadratic
 pub mod PrecisionMatrix
 pub mod LossForm
 pub mod Theorem34
+pub mod Sizes
+pub mod Chains
+pub mod ChainLimits
+pub mod Columns
+pub mod FileWeights
+pub mod FileChain
 pub mod FormGuarantee
 pub mod Rounding
 pub mod Judged
@@ -64,12 +75,9 @@ pub mod Pinned
 pub mod Diagonal
 pub mod Number16
 pub mod Rows
-pub mod Sizes
-pub mod FileBounds
 pub mod FlatPriors
 pub mod PinnedPriors
 pub mod LargerAmounts
-pub mod FileLimits
 pub mod PinnedAmounts
 pub mod StepLaws
 pub mod SweepLaws

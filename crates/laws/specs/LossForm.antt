@@ -9,8 +9,9 @@ use lib.Dec.{leb, ltb, leb·suc-suc}
 use lib.IntN.{ℤ, pos, negsuc, negℤ, _+ℤ_, _-ℤ_, _*ℤ_, zero-*ℤ}
 use Rattle.integers.specs.Ring.{*ℤ-idl}
 use Rattle.integers.specs.Solver.{ring, _⊞_, _⊟_, _⊠_, ⊖_, num, _≐_}
-use Rattle.integers.specs.Sum.{sum, sum-cong, sum-+, sum-neg, sum-scale, sum-const}
+use Rattle.integers.specs.Sum.{sum, total, sum-cong, sum-+, sum-neg, sum-scale, sum-scale-right}
 use Rattle.integers.specs.SumRange.{only, sum-split, sum-reverse, sum-from}
+use Rattle.integers.specs.Total.{pos-total}
 use Rattle.definitions.specs.Layout.{parts, psiIndex}
 use Rattle.definitions.specs.Loss.{Vector, weighted, phi, psi, ratio, lossTimes}
 use Rattle.definitions.specs.Observations.{Chain}
@@ -19,37 +20,41 @@ use Rattle.laws.specs.Quadratic.{combined, ownTerm, combinedTerm, formLo
 use Rattle.laws.specs.Ranks.{rankOf, signOf, partOf-phi, partOf-psi}
 use Rattle.laws.specs.PrecisionMatrix.{lossForm, firstsOf, secondsOf}
 
--- n observations o of weight w, and a prior of weight s: their sums of squares, as a quadratic of v
-module _ (w n s : ℕ) (o : ℕ → ℤ) (prior m v : ℤ) where
-  abbrev Σo : ℤ
-  Σo = sum n o
+-- n observations o with their weights w, and a prior of weight s: their sums of squares, as a quadratic of v
+module _ (w : ℕ → ℕ) (n s : ℕ) (o : ℕ → ℤ) (prior m v : ℤ) where
+  -- the weights, the weighted observations and their weighted squares, added up
+  abbrev Σw : ℤ
+  Σw = pos (total n w)
 
-  abbrev Σo² : ℤ
-  Σo² = sum n (λ i. o i *ℤ o i)
+  abbrev first : ℕ → ℤ
+  first i = pos (w i) *ℤ o i
 
-  -- what multiplies o in w·(v − m·o)²
+  abbrev second : ℕ → ℤ
+  second i = pos (w i) *ℤ (o i *ℤ o i)
+
+  -- what multiplies w·o in w·(v − m·o)²
   abbrev mixed : ℤ
-  mixed = negℤ (pos 2 *ℤ m *ℤ pos w *ℤ v)
+  mixed = negℤ (pos 2 *ℤ m *ℤ v)
 
-  column : sum n (λ i. weighted w (v -ℤ m *ℤ o i))
-      ≡ pos (n * w) *ℤ (v *ℤ v) -ℤ pos 2 *ℤ m *ℤ (pos w *ℤ Σo *ℤ v) +ℤ m *ℤ m *ℤ (pos w *ℤ Σo²)
+  column : sum n (λ i. weighted (w i) (v -ℤ m *ℤ o i))
+      ≡ Σw *ℤ (v *ℤ v) -ℤ pos 2 *ℤ m *ℤ (sum n first *ℤ v) +ℤ m *ℤ m *ℤ sum n second
   column =
-      sum-cong n (λ i _. ring (pos w ∷ v ∷ m ∷ o i ∷ [])
-      (λ w v m o. w ⊠ ((v ⊟ m ⊠ o) ⊠ (v ⊟ m ⊠ o)) ≐ w ⊠ (v ⊠ v) ⊞ (⊖ (num 2 ⊠ m ⊠ w ⊠ v) ⊠ o ⊞ m ⊠ m ⊠ w ⊠ (o ⊠ o))) tt)
-      ∙ sum-+ n (λ i. pos w *ℤ (v *ℤ v)) (λ i. mixed *ℤ o i +ℤ m *ℤ m *ℤ pos w *ℤ (o i *ℤ o i))
-      ∙ ap₂ _+ℤ_ (sum-const n (pos w *ℤ (v *ℤ v))) (sum-+ n (λ i. mixed *ℤ o i) (λ i. m *ℤ m *ℤ pos w *ℤ (o i *ℤ o i)))
-      ∙ ap₂ (λ a b. pos n *ℤ (pos w *ℤ (v *ℤ v)) +ℤ (a +ℤ b)) (sum-scale n mixed o) (sum-scale n (m *ℤ m *ℤ pos w) (λ i. o i *ℤ o i))
-      ∙ ring (pos n ∷ pos w ∷ v ∷ m ∷ Σo ∷ Σo² ∷ [])
-      (λ n w v m s t. n ⊠ (w ⊠ (v ⊠ v)) ⊞ (⊖ (num 2 ⊠ m ⊠ w ⊠ v) ⊠ s ⊞ m ⊠ m ⊠ w ⊠ t)
-      ≐ n ⊠ w ⊠ (v ⊠ v) ⊟ num 2 ⊠ m ⊠ (w ⊠ s ⊠ v) ⊞ m ⊠ m ⊠ (w ⊠ t)) tt
+      sum-cong n (λ i _. ring (pos (w i) ∷ v ∷ m ∷ o i ∷ [])
+      (λ w v m o. w ⊠ ((v ⊟ m ⊠ o) ⊠ (v ⊟ m ⊠ o)) ≐ w ⊠ (v ⊠ v) ⊞ (⊖ (num 2 ⊠ m ⊠ v) ⊠ (w ⊠ o) ⊞ m ⊠ m ⊠ (w ⊠ (o ⊠ o)))) tt)
+      ∙ sum-+ n (λ i. pos (w i) *ℤ (v *ℤ v)) (λ i. mixed *ℤ first i +ℤ m *ℤ m *ℤ second i)
+      ∙ ap₂ _+ℤ_
+      (sum-scale-right n (v *ℤ v) (λ i. pos (w i)) ∙ ap (λ z. z *ℤ (v *ℤ v)) (sym (pos-total n w)))
+      (sum-+ n (λ i. mixed *ℤ first i) (λ i. m *ℤ m *ℤ second i) ∙ ap₂ _+ℤ_ (sum-scale n mixed first) (sum-scale n (m *ℤ m) second))
+      ∙ ring (Σw ∷ v ∷ m ∷ sum n first ∷ sum n second ∷ [])
+      (λ w v m s t. w ⊠ (v ⊠ v) ⊞ (⊖ (num 2 ⊠ m ⊠ v) ⊠ s ⊞ m ⊠ m ⊠ t) ≐ w ⊠ (v ⊠ v) ⊟ num 2 ⊠ m ⊠ (s ⊠ v) ⊞ m ⊠ m ⊠ t) tt
 
-  column-and-prior : pos (s + n * w) *ℤ (v *ℤ v) -ℤ pos 2 *ℤ m *ℤ ((pos s *ℤ prior +ℤ pos w *ℤ Σo) *ℤ v)
-      +ℤ m *ℤ m *ℤ (pos s *ℤ (prior *ℤ prior) +ℤ pos w *ℤ Σo²)
-      ≡ sum n (λ i. weighted w (v -ℤ m *ℤ o i)) +ℤ weighted s (v -ℤ m *ℤ prior)
+  column-and-prior : pos (s + total n w) *ℤ (v *ℤ v) -ℤ pos 2 *ℤ m *ℤ ((pos s *ℤ prior +ℤ sum n first) *ℤ v)
+      +ℤ m *ℤ m *ℤ (pos s *ℤ (prior *ℤ prior) +ℤ sum n second)
+      ≡ sum n (λ i. weighted (w i) (v -ℤ m *ℤ o i)) +ℤ weighted s (v -ℤ m *ℤ prior)
   column-and-prior =
-      ring (pos n ∷ pos w ∷ pos s ∷ prior ∷ v ∷ m ∷ Σo ∷ Σo² ∷ [])
-      (λ n w s p v m x y. (s ⊞ n ⊠ w) ⊠ (v ⊠ v) ⊟ num 2 ⊠ m ⊠ ((s ⊠ p ⊞ w ⊠ x) ⊠ v) ⊞ m ⊠ m ⊠ (s ⊠ (p ⊠ p) ⊞ w ⊠ y)
-      ≐ n ⊠ w ⊠ (v ⊠ v) ⊟ num 2 ⊠ m ⊠ (w ⊠ x ⊠ v) ⊞ m ⊠ m ⊠ (w ⊠ y) ⊞ s ⊠ ((v ⊟ m ⊠ p) ⊠ (v ⊟ m ⊠ p))) tt
+      ring (Σw ∷ pos s ∷ prior ∷ v ∷ m ∷ sum n first ∷ sum n second ∷ [])
+      (λ w s p v m x y. (s ⊞ w) ⊠ (v ⊠ v) ⊟ num 2 ⊠ m ⊠ ((s ⊠ p ⊞ x) ⊠ v) ⊞ m ⊠ m ⊠ (s ⊠ (p ⊠ p) ⊞ y)
+      ≐ w ⊠ (v ⊠ v) ⊟ num 2 ⊠ m ⊠ (x ⊠ v) ⊞ m ⊠ m ⊠ y ⊞ s ⊠ ((v ⊟ m ⊠ p) ⊠ (v ⊟ m ⊠ p))) tt
       ∙ ap (λ z. z +ℤ weighted s (v -ℤ m *ℤ prior)) (sym column)
 
 module _ (c : Chain) where
@@ -115,8 +120,8 @@ module _ (c : Chain) where
   module _ (m : ℕ) (u : Vector) where
     -- the terms of the loss: a part's own observations, its prior, the ratio of accident year k + 1
     abbrev ownTerms : Part → ℤ → ℤ
-    ownTerms (Φ j) v = sum (J - j + 1) (λ i. weighted (c .p j) (v -ℤ pos m *ℤ c .x i j))
-    ownTerms (Ψ j) v = sum (J - j) (λ i. weighted (c .q j) (v -ℤ pos m *ℤ c .z i j))
+    ownTerms (Φ j) v = sum (J - j + 1) (λ i. weighted (c .p i j) (v -ℤ pos m *ℤ c .x i j))
+    ownTerms (Ψ j) v = sum (J - j) (λ i. weighted (c .q i j) (v -ℤ pos m *ℤ c .z i j))
 
     abbrev priorTerm : Part → ℤ → ℤ
     priorTerm (Φ j) v = weighted (c .s j) (v -ℤ pos m *ℤ c .priorΦ j)
@@ -129,8 +134,8 @@ module _ (c : Chain) where
     ownQuadratic a v = pos (ownOf c a) *ℤ (v *ℤ v) -ℤ pos 2 *ℤ pos m *ℤ (firstsOf c a *ℤ v) +ℤ pos m *ℤ pos m *ℤ secondsOf c a
 
     own-terms : (a : Part) (v : ℤ) → ownQuadratic a v ≡ ownTerms a v +ℤ priorTerm a v
-    own-terms (Φ j) v = column-and-prior (c .p j) (J - j + 1) (c .s j) (λ i. c .x i j) (c .priorΦ j) (pos m) v
-    own-terms (Ψ j) v = column-and-prior (c .q j) (J - j) (c .t j) (λ i. c .z i j) (c .priorΨ j) (pos m) v
+    own-terms (Φ j) v = column-and-prior (λ i. c .p i j) (J - j + 1) (c .s j) (λ i. c .x i j) (c .priorΦ j) (pos m) v
+    own-terms (Ψ j) v = column-and-prior (λ i. c .q i j) (J - j) (c .t j) (λ i. c .z i j) (c .priorΨ j) (pos m) v
 
     own-phi : (j : ℕ) → j < J + 1 → ownTerm (lossForm c) (pos m) u j ≡ ownTerms (Φ j) (u j) +ℤ priorTerm (Φ j) (u j)
     unfolding own

@@ -1,5 +1,5 @@
--- The session machine of the specification: it runs on a file's figures alone, and every state that a list of calls reaches from the empty
--- one is empty, or an accepted file with a mean inside the limits and a total of at most 4,096.
+-- The session machine of the specification: it answers alike on what a session keeps of a file, and every state that a list of calls
+-- reaches from the empty one is empty, or an accepted file with a mean inside the limits and a total of at most 4,096.
 use Prim.Native.Nat.{ℕ, zero, suc, _≤_, _<_, zero-le}
 use mathlib.Core.Path.{_≡_, refl, sym, ap, ap₂, _∙_}
 use mathlib.Core.Bool.{Bool, true, false, not, cond, _||_}
@@ -10,91 +10,113 @@ use lib.Dec.{T, leb, ltb, nleb→lt}
 use lib.IntN.{ℤ, pos, natAbs}
 use lib.ListN.{length, List·getD-eq-default}
 use Rattle.definitions.specs.Words.{within, tabFrom, part}
-use Rattle.definitions.specs.Layout.{Bytes, lastYear, parts, priorMean, recordLength}
+use Rattle.definitions.specs.Layout.{Bytes, lastYear, closeness, parts, priorMean, recordLength}
 use Rattle.definitions.specs.Page.{pageLength}
 use Rattle.definitions.specs.Refusals.{Check, clear, refuses, fileCheck, partLimit, isClear, accepted}
+use Rattle.definitions.specs.Observations.{chainOf}
 use Rattle.definitions.specs.Matrix.{Figures, figuresOf, passes}
 use Rattle.definitions.specs.Sweep.{sweeps, sweepLimit, oneSweep}
 use Rattle.definitions.specs.Machine.{Call, open-file, judge, sweep, read, page, row, row-told, close}
-use Rattle.definitions.specs.Machine.{State, empty, holds, Outcome, openUnless}
-use Rattle.definitions.specs.Machine.{openCall, judgeCall, sweepCall, writeCall, recordIn, pageIn, outcome, outcomes, machine, figuresMachine}
+use Rattle.definitions.specs.Machine.{State, empty, holds, mapState, Keeping, Outcome, answers, openUnless, theFile}
+use Rattle.definitions.specs.Machine.{openCall, judgeCall, sweepCall, writeCall, recordIn, pageIn, outcome, outcomes, machine}
+use Rattle.definitions.specs.Kept.{keptOf, inSession}
 use Rattle.laws.specs.Accepted.{accepted-file, AcceptedFile}
+use Rattle.laws.specs.FileChain.{file-chain}
 use Rattle.laws.specs.Tables.{tab-at, tabFrom-length}
 use Rattle.laws.specs.SweepLaws.{MeanOf, sweeps-came}
 
--- ---- the machine on figures
+-- ---- what is kept, in another form
 
--- what a session holds of a state: the figures in place of the file
-abbrev pub heldState : State Bytes → State Figures
-heldState empty = empty
-heldState (holds f μ total) = holds (figuresOf f) μ total
+abbrev pub mapOutcome : {X Y : Type 0} → (X → Y) → Outcome X → Outcome Y
+mapOutcome φ o = record { answer = o .answer; state = mapState φ (o .state); buffer = o .buffer }
 
-abbrev pub heldOutcome : Outcome Bytes → Outcome Figures
-heldOutcome o = record { answer = o .answer; state = heldState (o .state); buffer = o .buffer }
+-- judge, sweep, read and page, which use the figures alone, where the figures are the same in both forms
+module _ {X Y : Type 0} (φ : X → Y) (F : X → Figures) (G : Y → Figures) (same : (x : X) → G (φ x) ≡ F x) where
+  map-cond : (t : Bool) (a b : Outcome X) → mapOutcome φ (cond t a b) ≡ cond t (mapOutcome φ a) (mapOutcome φ b)
+  map-cond true a b = refl
+  map-cond false a b = refl
 
-held-cond : (t : Bool) (a b : Outcome Bytes) → heldOutcome (cond t a b) ≡ cond t (heldOutcome a) (heldOutcome b)
-held-cond true a b = refl
-held-cond false a b = refl
+  map-cond₂ : (s t : Bool) (a b c : Outcome X)
+      → mapOutcome φ (cond s a (cond t b c)) ≡ cond s (mapOutcome φ a) (cond t (mapOutcome φ b) (mapOutcome φ c))
+  map-cond₂ s t a b c = map-cond s a (cond t b c) ∙ ap (cond s (mapOutcome φ a)) (map-cond t b c)
 
-held-cond₂ : (s t : Bool) (a b c : Outcome Bytes)
-    → heldOutcome (cond s a (cond t b c)) ≡ cond s (heldOutcome a) (cond t (heldOutcome b) (heldOutcome c))
-held-cond₂ s t a b c = held-cond s a (cond t b c) ∙ ap (cond s (heldOutcome a)) (held-cond t b c)
+  map-cond₃ : (r s t : Bool) (a b c d : Outcome X)
+      → mapOutcome φ (cond r a (cond s b (cond t c d)))
+      ≡ cond r (mapOutcome φ a) (cond s (mapOutcome φ b) (cond t (mapOutcome φ c) (mapOutcome φ d)))
+  map-cond₃ r s t a b c d = map-cond r a (cond s b (cond t c d)) ∙ ap (cond r (mapOutcome φ a)) (map-cond₂ s t b c d)
 
-held-cond₃ : (r s t : Bool) (a b c d : Outcome Bytes)
-    → heldOutcome (cond r a (cond s b (cond t c d)))
-    ≡ cond r (heldOutcome a) (cond s (heldOutcome b) (cond t (heldOutcome c) (heldOutcome d)))
-held-cond₃ r s t a b c d = held-cond r a (cond s b (cond t c d)) ∙ ap (cond r (heldOutcome a)) (held-cond₂ s t b c d)
+  pub judge-alike : (st : State X) (r : Bytes) → judgeCall G (mapState φ st) r ≡ judgeCall F st r
+  unfolding judgeCall
+  judge-alike empty r = refl
+  judge-alike (holds x μ total) r = rw (same x) refl
 
-held-open : (c : Check) (f : Bytes) → openUnless Figures figuresOf (λ F. F) c f ≡ heldOutcome (openUnless Bytes (λ s. s) figuresOf c f)
-held-open clear f = refl
-held-open (refuses number place) f = refl
+  pub sweep-alike : (st : State X) (n : ℕ) → sweepCall G (mapState φ st) n ≡ mapOutcome φ (sweepCall F st n)
+  unfolding sweepCall
+  sweep-alike empty n = refl
+  sweep-alike (holds x μ total) n =
+      rw (same x) (sym (map-cond₃ (not (within 1 sweepLimit n)) (passes (F x) (part μ)) (leb sweepLimit total) _ _ _ _))
 
--- a call that writes
-held-write : (size : ℕ → ℕ) (text : Figures → List ℤ → Bytes) (st : State Bytes) (b : Bytes)
-    → writeCall Figures figuresOf (λ F. F) size text (heldState st) b ≡ heldOutcome (writeCall Bytes (λ f. f) figuresOf size text st b)
+  pub write-alike : (size : ℕ → ℕ) (text : Figures → List ℤ → Bytes) (st : State X) (b : Bytes)
+      → writeCall G size text (mapState φ st) b ≡ mapOutcome φ (writeCall F size text st b)
+  unfolding writeCall
+  write-alike size text empty b = refl
+  write-alike size text (holds x μ total) b =
+      rw (same x) (sym (map-cond₂ (not (passes (F x) (part μ))) (ltb (length b) (size (F x .last))) _ _ _))
+
+-- a call that writes leaves the state as it was
+pub write-alone : {X : Type 0} (figures : X → Figures) (size : ℕ → ℕ) (text : Figures → List ℤ → Bytes) (st : State X) (b : Bytes)
+    → writeCall figures size text st b .state ≡ st
 unfolding writeCall
-held-write size text empty b = refl
-held-write size text (holds f μ total) b =
-    sym (held-cond₂ (not (passes (figuresOf f) (part μ))) (ltb (length b) (size (figuresOf f .last))) _ _ _)
-
--- and it leaves the state as it was
-pub write-alone : (size : ℕ → ℕ) (text : Figures → List ℤ → Bytes) (st : State Figures) (b : Bytes)
-    → writeCall Figures figuresOf (λ F. F) size text st b .state ≡ st
-unfolding writeCall
-write-alone size text empty b = refl
-write-alone size text (holds F μ total) b =
-    same (not (passes F (part μ))) _ _ refl (same (ltb (length b) (size (F .last))) _ _ refl refl)
+write-alone figures size text empty b = refl
+write-alone {X} figures size text (holds x μ total) b =
+    same (not (passes (figures x) (part μ))) _ _ refl (same (ltb (length b) (size (figures x .last))) _ _ refl refl)
   where
-    same : (t : Bool) (x y : Outcome Figures) → x .state ≡ holds F μ total → y .state ≡ holds F μ total
-        → cond t x y .state ≡ holds F μ total
-    same true x y first second = first
-    same false x y first second = second
+    same : (t : Bool) (a b : Outcome X) → a .state ≡ holds x μ total → b .state ≡ holds x μ total → cond t a b .state ≡ holds x μ total
+    same true a b first second = first
+    same false a b first second = second
 
-pub machine-on-figures : (st : State Bytes) (call : Call) → figuresMachine (heldState st) call ≡ heldOutcome (machine st call)
-unfolding outcome openCall judgeCall sweepCall
-machine-on-figures empty (open-file f) = held-open (fileCheck f) f
-machine-on-figures (holds f μ total) (open-file g) = refl
-machine-on-figures empty (judge r) = refl
-machine-on-figures (holds f μ total) (judge r) = refl
-machine-on-figures empty (sweep n) = refl
-machine-on-figures (holds f μ total) (sweep n) =
-    sym (held-cond₃ (not (within 1 sweepLimit n)) (passes (figuresOf f) (part μ)) (leb sweepLimit total) _ _ _ _)
-machine-on-figures st (read b) = held-write recordLength recordIn st b
-machine-on-figures st (page b) = held-write pageLength pageIn st b
-machine-on-figures empty (row f channel year) = refl
-machine-on-figures (holds g μ total) (row f channel year) = refl
-machine-on-figures empty (row-told f channel year) = refl
-machine-on-figures (holds g μ total) (row-told f channel year) = refl
-machine-on-figures empty close = refl
-machine-on-figures (holds f μ total) close = refl
+-- ---- one way of keeping a file in the place of another
+
+pub record Alike {X Y : Type 0} (K : Keeping X) (L : Keeping Y) (φ : X → Y) : Type 0 where
+  pub keeps : (f : Bytes) → φ (K .keep f) ≡ L .keep f
+  pub figures : (x : X) → L .figures (φ x) ≡ K .figures x
+  pub priorMeans : (x : X) → L .priorMeans (φ x) ≡ K .priorMeans x
+
+module _ {X Y : Type 0} (K : Keeping X) (L : Keeping Y) (φ : X → Y) (h : Alike K L φ) where
+  open-alike : (c : Check) (f : Bytes) → openUnless L c f ≡ mapOutcome φ (openUnless K c f)
+  open-alike clear f = rw (sym (h .keeps f), h .priorMeans (K .keep f)) refl
+  open-alike (refuses number place) f = refl
+
+  pub outcome-alike : (st : State X) (call : Call) → outcome L (mapState φ st) call ≡ mapOutcome φ (outcome K st call)
+  unfolding outcome openCall
+  outcome-alike empty (open-file f) = open-alike (fileCheck f) f
+  outcome-alike (holds x μ total) (open-file f) = refl
+  outcome-alike st (judge r) = ap (answers (mapState φ st)) (judge-alike φ (K .figures) (L .figures) (h .figures) st r)
+  outcome-alike st (sweep n) = sweep-alike φ (K .figures) (L .figures) (h .figures) st n
+  outcome-alike st (read b) = write-alike φ (K .figures) (L .figures) (h .figures) recordLength recordIn st b
+  outcome-alike st (page b) = write-alike φ (K .figures) (L .figures) (h .figures) pageLength pageIn st b
+  outcome-alike st (row f channel year) = refl
+  outcome-alike st (row-told f channel year) = refl
+  outcome-alike st close = refl
+
+  pub outcomes-alike : (calls : List Call) (st : State X) → outcomes L (mapState φ st) calls ≡ map (mapOutcome φ) (outcomes K st calls)
+  unfolding outcomes
+  outcomes-alike [] st = refl
+  outcomes-alike (call ∷ calls) st =
+      let same = outcome-alike st call in
+      ap₂ _∷_ same (ap (λ o. outcomes L (o .state) calls) same ∙ outcomes-alike calls (outcome K st call .state))
+
+-- what a session keeps, in the place of the file
+pub session-alike : Alike theFile inSession keptOf
+session-alike = record { keeps = λ f. refl; figures = λ f. refl; priorMeans = λ f. refl }
 
 -- ---- states that calls reach
 
 abbrev pub Good : State Bytes → Type 0
 Good empty = Unit {0}
-Good (holds f μ total) = (accepted f ≡ true) × MeanOf f μ × (total ≤ sweepLimit)
+Good (holds f μ total) = (accepted f ≡ true) × MeanOf (lastYear f) μ × (total ≤ sweepLimit)
 
-pub priors-mean : (f : Bytes) → AcceptedFile f → MeanOf f (tabFrom 0 (parts (lastYear f)) (priorMean f))
+pub priors-mean : (f : Bytes) → AcceptedFile f → MeanOf (lastYear f) (tabFrom 0 (parts (lastYear f)) (priorMean f))
 priors-mean f h = record { whole = tabFrom-length 0 n (priorMean f); inside = λ l. by-index (decLt l n) }
   where
     n : ℕ
@@ -129,7 +151,7 @@ good-cond true a b x y = x
 good-cond false a b x y = y
 
 good-write : (size : ℕ → ℕ) (text : Figures → List ℤ → Bytes) (st : State Bytes) (b : Bytes)
-    → Good st → Good (writeCall Bytes (λ f. f) figuresOf size text st b .state)
+    → Good st → Good (writeCall figuresOf size text st b .state)
 unfolding writeCall
 good-write size text empty b g = g
 good-write size text (holds f μ total) b g =
@@ -139,15 +161,17 @@ pub good-call : (st : State Bytes) (call : Call) → Good st → Good (machine s
 unfolding outcome openCall sweepCall
 good-call empty (open-file f) g = by-check (fileCheck f) refl
   where
-    by-check : (c : Check) → fileCheck f ≡ c → Good (openUnless Bytes (λ s. s) figuresOf c f .state)
+    by-check : (c : Check) → fileCheck f ≡ c → Good (openUnless theFile c f .state)
     by-check clear e = let yes-file : accepted f ≡ true = ap isClear e in (yes-file, priors-mean f (accepted-file f yes-file), zero-le)
     by-check (refuses number place) e = tt
 good-call (holds f μ total) (open-file h) g = g
 good-call st (judge r) g = g
 good-call empty (sweep n) g = g
 good-call (holds f μ total) (sweep n) g =
+    let carried = file-chain f (accepted-file f (g .0)) .1 in
+    let came = sweeps-came (chainOf f) (closeness f) carried n μ total (g .1) in
     good-cond (not (within 1 sweepLimit n)) _ _ g (good-cond (passes (figuresOf f) (part μ)) _ _ g (good-cond (leb sweepLimit total) _ _ g
-    (g .0, sweeps-came f (accepted-file f (g .0)) n μ total (g .1) .mean, sweeps-total (figuresOf f) n μ total (g .2))))
+    (g .0, came .mean, sweeps-total (figuresOf f) n μ total (g .2))))
 good-call st (read b) g = good-write recordLength recordIn st b g
 good-call st (page b) g = good-write pageLength pageIn st b g
 good-call st (row f channel year) g = g
@@ -166,13 +190,3 @@ good-after (call ∷ calls) st g = good-after calls (machine st call .state) (go
 
 pub reached-good : (calls : List Call) → Good (after empty calls)
 reached-good calls = good-after calls empty tt
-
--- every list of calls gives the machine on figures the answers and buffers of the specification's machine
-pub outcomes-on-figures : (calls : List Call) (st : State Bytes)
-    → outcomes Figures figuresOf (λ F. F) (heldState st) calls ≡ map heldOutcome (outcomes Bytes (λ f. f) figuresOf st calls)
-unfolding outcomes
-outcomes-on-figures [] st = refl
-outcomes-on-figures (call ∷ calls) st =
-    let same = machine-on-figures st call in
-    let later = ap (λ o. outcomes Figures figuresOf (λ F. F) (o .state) calls) same in
-    ap₂ _∷_ same (later ∙ outcomes-on-figures calls (machine st call .state))

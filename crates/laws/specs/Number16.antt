@@ -12,16 +12,17 @@ use lib.Dec.{eqb}
 use lib.IntN.{ℤ, pos, negsuc, natAbs}
 use lib.Signed.{_<ℤ_, <ℤ-irrefl}
 use Rattle.integers.specs.Linear.{linear, zarith}
-use Rattle.integers.specs.Sum.{sum}
+use Rattle.integers.specs.Sum.{sum, total}
 use Rattle.definitions.specs.Layout.{Bytes, lastYear, unsigned, bigEndian}
 use Rattle.definitions.specs.Weight.{weight}
 use Rattle.definitions.specs.Refusals.{Check, clear, refuses, _then_, fields, fileCheck, isClear, accepted}
 use Rattle.definitions.specs.Refusals.{check1, check2, check3, check4, check5, check6, check7, check8, check9, check10}
 use Rattle.definitions.specs.Observations.{chainOf}
-use Rattle.definitions.specs.Matrix.{Figures, partOf, own, matrix}
-use Rattle.definitions.specs.Machine.{State, empty, holds, Outcome, refused, Call, answers, openUnless, openCall, outcome}
+use Rattle.definitions.specs.Matrix.{partOf, own, matrix}
+use Rattle.definitions.specs.Machine.{State, empty, holds, Keeping, Outcome, refused, Call, answers, openUnless, openCall, outcome}
 use Rattle.laws.specs.ClearChecks.{fields-good, fields-bad}
 use Rattle.laws.specs.Accepted.{accepted-file}
+use Rattle.laws.specs.FileChain.{file-chain}
 use Rattle.laws.specs.Diagonal.{diagonal-positive}
 use Rattle.laws.specs.Pinned.{in-table}
 
@@ -43,7 +44,7 @@ module _ (f : Bytes) where
   pub positive : oneToTen ≡ clear → (k : ℕ) → k < 2 * lastYear f + 1 → pos 0 <ℤ matrix (chainOf f) k k
   unfolding fileCheck
   positive passed k below =
-      let least = diagonal-positive f (accepted-file f (ap isClear passed)) k below in
+      let least = diagonal-positive (chainOf f) (file-chain f (accepted-file f (ap isClear passed)) .1) k below in
       simp linear (omega (zarith, simp linear at least))
 
   -- number 16: a diagonal entry that is zero, with place 0
@@ -71,24 +72,24 @@ module _ (f : Bytes) where
 
 -- 16 did refuse: of bytes that are no file, for one
 pub refuses-no-bytes : check16 [] ≡ refuses 16 0
-unfolding unsigned bigEndian weight sum partOf own matrix
+unfolding unsigned bigEndian weight sum total partOf own matrix
 refuses-no-bytes = zero-refused [] 0 (omega arith) refl
 
--- for whatever is kept of a file: the file itself, as the specification's machine does, or its figures, as a session does
-module _ (X : Type 0) (keep : Bytes → X) (figures : X → Figures) where
+-- for whatever is kept of a file: the file itself, as the specification's machine does, or arrays, as a session does
+module _ (X : Type 0) (K : Keeping X) where
   -- open with 16 in its order: 22, then 1 to 10, then 16
   abbrev pub openWith16 : State X → Bytes → Outcome X
-  openWith16 empty f = openUnless X keep figures (oneToTen f then check16 f) f
-  openWith16 (holds x μ total) f = answers X keep figures (holds x μ total) (refused 22 0)
+  openWith16 empty f = openUnless K (oneToTen f then check16 f) f
+  openWith16 (holds x μ total) f = answers (holds x μ total) (refused 22 0)
 
   -- answer, state and buffer are those of open, which does not have it
-  pub alike-without-16 : (st : State X) (f : Bytes) → openWith16 st f ≡ openCall X keep figures st f
+  pub alike-without-16 : (st : State X) (f : Bytes) → openWith16 st f ≡ openCall K st f
   unfolding openCall fileCheck
-  alike-without-16 empty f = ap (λ check. openUnless X keep figures check f) (same-check f)
+  alike-without-16 empty f = ap (λ check. openUnless K check f) (same-check f)
   alike-without-16 (holds x μ total) f = refl
 
-  pub never-16 : (st : State X) (call : Call) (place : ℕ) → outcome X keep figures st call .answer ≢ refused 16 place
-  never-16 st call place e = neither (in-table X keep figures st call 16 place e)
+  pub never-16 : (st : State X) (call : Call) (place : ℕ) → outcome K st call .answer ≢ refused 16 place
+  never-16 st call place e = neither (in-table X K st call 16 place e)
     where
       neither : ((1 ≤ 16) × (16 ≤ 15)) ⊎ ((21 ≤ 16) × (16 ≤ 24)) → ⊥
       neither (inl h) = omega (arith, h .1)

@@ -14,7 +14,7 @@ use Rattle.definitions.specs.Refusals.{fileCheck, rowCheck, recordCheck}
 use Rattle.definitions.specs.Matrix.{Figures, passes}
 use Rattle.definitions.specs.Sweep.{sweeps, sweepLimit}
 use Rattle.definitions.specs.Machine.{Outcome, Answer, refused, opened, judged, settled, going, written, part-shown, row-is-shown, closed}
-use Rattle.definitions.specs.Machine.{State, empty, holds, openUnless, refusedOr}
+use Rattle.definitions.specs.Machine.{State, empty, holds, Keeping, openUnless, refusedOr}
 use Rattle.definitions.specs.Machine.{openCall, judgeCall, sweepCall, writeCall}
 
 -- the numbers of the input, and those of the state
@@ -106,22 +106,22 @@ either : {X : Type 0} (t : Bool) (x y : Outcome X) → NumberedAnswer (x .answer
 either true x y first second = first
 either false x y first second = second
 
-module _ (X : Type 0) (keep : Bytes → X) (figures : X → Figures) where
-  pub open-numbered : (st : State X) (f : Bytes) → NumberedAnswer (openCall X keep figures st f .answer)
-  unfolding openCall
-  open-numbered empty f = by-check (fileCheck f) (file-numbered f)
-    where
-      by-check : (c : Check) → Numbered c → NumberedAnswer (openUnless X keep figures c f .answer)
-      by-check clear h = tt
-      by-check (refuses number place) h = h .listed
-  open-numbered (holds x μ total) f = tt
+pub open-numbered : {X : Type 0} (K : Keeping X) (st : State X) (f : Bytes) → NumberedAnswer (openCall K st f .answer)
+unfolding openCall
+open-numbered K empty f = by-check (fileCheck f) (file-numbered f)
+  where
+    by-check : (c : Check) → Numbered c → NumberedAnswer (openUnless K c f .answer)
+    by-check clear h = tt
+    by-check (refuses number place) h = h .listed
+open-numbered K (holds x μ total) f = tt
 
-  pub judge-numbered : (st : State X) (r : Bytes) → NumberedAnswer (judgeCall X keep figures st r)
+module _ {X : Type 0} (figures : X → Figures) where
+  pub judge-numbered : (st : State X) (r : Bytes) → NumberedAnswer (judgeCall figures st r)
   unfolding judgeCall
   judge-numbered empty r = tt
   judge-numbered (holds x μ total) r = refused-or (recordCheck (figures x .last) r) _ (record-numbered (figures x .last) r) tt
 
-  pub sweep-numbered : (st : State X) (n : ℕ) → NumberedAnswer (sweepCall X keep figures st n .answer)
+  pub sweep-numbered : (st : State X) (n : ℕ) → NumberedAnswer (sweepCall figures st n .answer)
   unfolding sweepCall
   sweep-numbered empty n = tt
   sweep-numbered (holds x μ total) n =
@@ -131,7 +131,7 @@ module _ (X : Type 0) (keep : Bytes → X) (figures : X → Figures) where
       (either (leb sweepLimit total) _ _ tt (settled-or-going after _)))
 
   pub write-numbered : (size : ℕ → ℕ) (text : Figures → List ℤ → Bytes) (st : State X) (b : Bytes)
-      → NumberedAnswer (writeCall X keep figures size text st b .answer)
+      → NumberedAnswer (writeCall figures size text st b .answer)
   unfolding writeCall
   write-numbered size text empty b = tt
   write-numbered size text (holds x μ total) b =

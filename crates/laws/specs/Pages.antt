@@ -13,11 +13,12 @@ use Rattle.definitions.specs.Words.{part, tabFrom}
 use Rattle.definitions.specs.Layout.{Bytes, lastYear, parts}
 use Rattle.definitions.specs.Refusals.{yearLimit, partLimit, accepted}
 use Rattle.definitions.specs.Observations.{chainOf}
-use Rattle.definitions.specs.Matrix.{Part, Φ, Ψ, partOf, own, figuresOf}
+use Rattle.definitions.specs.Matrix.{Part, Φ, Ψ, partOf, own, figuresFrom, figuresOf}
 use Rattle.definitions.specs.Text.{ascii, space, lineFeed, decimalFrom, moreDigits, decimal, signedDecimal, aligned, readNumber, nameOf, indexOf}
 use Rattle.definitions.specs.Page.{pageLine, pageOf, columns, LineFits, PageFits}
 use Rattle.laws.specs.Accepted.{accepted-file}
-use Rattle.laws.specs.FileLimits.{file-limits}
+use Rattle.laws.specs.ChainLimits.{chain-limits}
+use Rattle.laws.specs.FileChain.{file-chain}
 use Rattle.laws.specs.Tables.{tab-at}
 use Rattle.laws.specs.Decimal.{aligned-read, aligned-length, decimal-length, signed-length, From, from-append, aligned-from}
 use Rattle.laws.specs.Lines.{lines-same, lines-length, line-at, Line, ended, line-behind, same-lines}
@@ -182,14 +183,15 @@ page-cong J μ ν D E means weights =
 -- every value of an accepted file and of a mean inside the limits fits its columns
 pub file-page-fits : (f : Bytes) → accepted f ≡ true → (μ : List ℤ)
     → ((k : ℕ) → k < parts (lastYear f) → natAbs (part μ k) ≤ partLimit) → PageFits (lastYear f) μ (figuresOf f .own)
-unfolding figuresOf
+unfolding figuresFrom
 file-page-fits f yes-file μ inside =
     let h = accepted-file f yes-file in
     page-fits (lastYear f) μ (figuresOf f .own) (record {
       years = h .years .to;
       means = inside;
       weights = λ k below.
-          let weight = tab-at (parts (lastYear f)) (own (chainOf f)) k 0 below in omega (arith, weight, file-limits f h .own-to k below);
+          let weight = tab-at (parts (lastYear f)) (own (chainOf f)) k 0 below in
+          omega (arith, weight, chain-limits (chainOf f) (file-chain f h .0) .own-to k below);
     })
 
 -- ---- two different means never share a page

@@ -19,15 +19,16 @@ use Rattle.definitions.specs.Page.{pageLength}
 use Rattle.definitions.specs.Loss.{Vector, weighted, ratio, loss, lossTimes}
 use Rattle.definitions.specs.Observations.{Chain, chainOf}
 use Rattle.definitions.specs.Refusals.{clear, rowCheck, accepted}
-use Rattle.definitions.specs.Matrix.{own, residueTimes, Figures, figuresOf, passes}
-use Rattle.definitions.specs.Machine.{State, empty, Call, outcomes, open-file, judge, sweep, read, page, row, row-told, close}
+use Rattle.definitions.specs.Matrix.{own, residueTimes, figuresOf, passes}
+use Rattle.definitions.specs.Machine.{State, empty, mapState, Keeping, Call, outcomes, open-file, judge, sweep, read, page, row, row-told, close}
 use Rattle.definitions.specs.Machine.{closed, refused, part-shown, row-is-shown, refusedOr, rowPart}
-use Rattle.definitions.specs.Machine.{recordIn, pageIn, openCall, judgeCall, sweepCall, readCall, pageCall, outcome, figuresMachine}
+use Rattle.definitions.specs.Machine.{recordIn, pageIn, openCall, judgeCall, sweepCall, readCall, pageCall, outcome, theFile}
+use Rattle.definitions.specs.Kept.{keptOf, inSession}
 use Rattle.definitions.specs.Guarantee.{Guarantee, Rounded}
 use Rattle.laws.specs.Accepted.{Within, within-yes}
 use Rattle.laws.specs.Demand3.{demand3}
 use Rattle.laws.specs.Judged.{passes-of-small}
-use Rattle.laws.specs.MachineLaws.{heldState, heldOutcome, write-alone, outcomes-on-figures}
+use Rattle.laws.specs.MachineLaws.{mapOutcome, write-alone, outcomes-alike, session-alike}
 use Rattle.laws.specs.Numbers as N
 use Rattle.laws.specs.Rows.{empty-is-refused}
 use Rattle.laws.specs.Theorem34.{loss-expands}
@@ -58,7 +59,7 @@ module _ (f : Bytes) where
         → (m : ℕ) (u : Vector) → 1 ≤ m → (p : ℕ) → p < 2 * lastYear f + 1 → u p ≢ pos m *ℤ μ p
         → (pos (m * m) *ℤ loss (chainOf f) μ) <ℤ lossTimes (chainOf f) m u
 
-  pub worth : {e : ℕ} → closeness f ≡ e → {μ : Vector} → Guarantee f μ → Worth e μ
+  pub worth : {e : ℕ} → closeness f ≡ e → {μ : Vector} → Guarantee (chainOf f) (closeness f) μ → Worth e μ
   worth e-is g = record {
     nearly-least = λ m u some. rw e-is at (g .nearly-least m u some);
     near = λ m u some none. rw e-is at (g .near m u some none);
@@ -75,7 +76,7 @@ module _ (f : Bytes) where
     pub exact : Each (λ k. residueOf m u k ≡ pos 0)
     pub half : Each (λ k. 2 * natAbs (u k -ℤ pos m *ℤ μ k) ≤ m)
 
-  pub rounded : {μ : Vector} → Near μ → Rounded f μ
+  pub rounded : {μ : Vector} → Near μ → Rounded (chainOf f) (closeness f) μ
   rounded h = record {
     room = h .room;
     inside = h .limits;
@@ -92,30 +93,30 @@ module _ (f : Bytes) where
     -- each residue as large as the test lets it be
     pub at-the-bound : (e : ℕ) → closeness f ≡ e → Each (λ k. natAbs (residueOf 1 μ k) ≡ e * D k) → Worth e μ
     at-the-bound e e-is at-bound =
-        worth e-is (demand3 .guarantee f yes-file μ (passes-of-small f μ (λ k below.
+        worth e-is (demand3 .guarantee f yes-file μ (passes-of-small (chainOf f) (closeness f) μ (λ k below.
         le-of-eq (at-bound k below ∙ ap (λ e. e * D k) (sym e-is)))))
 
     pub near-passes : Near μ → passes (figuresOf f) μ ≡ true
     near-passes h = demand3 .rounding f yes-file μ (rounded h)
 
--- ---- the machine, call by call
+-- ---- the machine, call by call, whatever is kept of a file
 
-module _ (st : State Figures) where
+module _ (X : Type 0) (K : Keeping X) (st : State X) where
   pub record Machine : Type 0 where
-    pub opens : (f : Bytes) → figuresMachine st (open-file f) ≡ openCall Figures figuresOf (λ F. F) st f
-    pub judges : (r : Bytes) → figuresMachine st (judge r) .answer ≡ judgeCall Figures figuresOf (λ F. F) st r
-    pub judges-alone : (r : Bytes) → figuresMachine st (judge r) .state ≡ st
-    pub sweeps : (n : ℕ) → figuresMachine st (sweep n) ≡ sweepCall Figures figuresOf (λ F. F) st n
-    pub reads : (b : Bytes) → figuresMachine st (read b) ≡ readCall Figures figuresOf (λ F. F) st b
-    pub reads-alone : (b : Bytes) → figuresMachine st (read b) .state ≡ st
-    pub pages : (b : Bytes) → figuresMachine st (page b) ≡ pageCall Figures figuresOf (λ F. F) st b
-    pub pages-alone : (b : Bytes) → figuresMachine st (page b) .state ≡ st
+    pub opens : (f : Bytes) → outcome K st (open-file f) ≡ openCall K st f
+    pub judges : (r : Bytes) → outcome K st (judge r) .answer ≡ judgeCall (K .figures) st r
+    pub judges-alone : (r : Bytes) → outcome K st (judge r) .state ≡ st
+    pub sweeps : (n : ℕ) → outcome K st (sweep n) ≡ sweepCall (K .figures) st n
+    pub reads : (b : Bytes) → outcome K st (read b) ≡ readCall (K .figures) st b
+    pub reads-alone : (b : Bytes) → outcome K st (read b) .state ≡ st
+    pub pages : (b : Bytes) → outcome K st (page b) ≡ pageCall (K .figures) st b
+    pub pages-alone : (b : Bytes) → outcome K st (page b) .state ≡ st
     pub shows : (f : Bytes) (channel year : ℕ)
-        → figuresMachine st (row f channel year) ≡ record { answer = part-shown (rowPart f channel year); state = st; buffer = [] }
+        → outcome K st (row f channel year) ≡ record { answer = part-shown (rowPart f channel year); state = st; buffer = [] }
     pub tells : (f : Bytes) (channel year : ℕ)
-        → figuresMachine st (row-told f channel year)
+        → outcome K st (row-told f channel year)
         ≡ record { answer = refusedOr (rowCheck f channel year) row-is-shown; state = st; buffer = [] }
-    pub closes : figuresMachine st close ≡ record { answer = closed; state = empty; buffer = [] }
+    pub closes : outcome K st close ≡ record { answer = closed; state = empty; buffer = [] }
 
   pub machine : Machine
   unfolding outcome
@@ -125,9 +126,9 @@ module _ (st : State Figures) where
     judges-alone = λ r. refl;
     sweeps = λ n. refl;
     reads = λ b. refl;
-    reads-alone = write-alone recordLength recordIn st;
+    reads-alone = write-alone (K .figures) recordLength recordIn st;
     pages = λ b. refl;
-    pages-alone = write-alone pageLength pageIn st;
+    pages-alone = write-alone (K .figures) pageLength pageIn st;
     shows = λ f channel year. refl;
     tells = λ f channel year. refl;
     closes = refl;
@@ -135,34 +136,34 @@ module _ (st : State Figures) where
 
 -- ---- the number of a refusal is one of the specification's table, whatever is called and whatever is kept of a file
 
-call-numbered : (X : Type 0) (keep : Bytes → X) (figures : X → Figures) (st : State X) (call : Call)
-    → N.NumberedAnswer (outcome X keep figures st call .answer)
+call-numbered : (X : Type 0) (K : Keeping X) (st : State X) (call : Call)
+    → N.NumberedAnswer (outcome K st call .answer)
 unfolding outcome
-call-numbered X keep figures st (open-file f) = N.open-numbered X keep figures st f
-call-numbered X keep figures st (judge r) = N.judge-numbered X keep figures st r
-call-numbered X keep figures st (sweep n) = N.sweep-numbered X keep figures st n
-call-numbered X keep figures st (read b) = N.write-numbered X keep figures recordLength recordIn st b
-call-numbered X keep figures st (page b) = N.write-numbered X keep figures pageLength pageIn st b
-call-numbered X keep figures st (row f channel year) = tt
-call-numbered X keep figures st (row-told f channel year) =
+call-numbered X K st (open-file f) = N.open-numbered K st f
+call-numbered X K st (judge r) = N.judge-numbered (K .figures) st r
+call-numbered X K st (sweep n) = N.sweep-numbered (K .figures) st n
+call-numbered X K st (read b) = N.write-numbered (K .figures) recordLength recordIn st b
+call-numbered X K st (page b) = N.write-numbered (K .figures) pageLength pageIn st b
+call-numbered X K st (row f channel year) = tt
+call-numbered X K st (row-told f channel year) =
     N.refused-or (rowCheck f channel year) row-is-shown (N.row-numbered f channel year) tt
-call-numbered X keep figures st close = tt
+call-numbered X K st close = tt
 
-pub in-table : (X : Type 0) (keep : Bytes → X) (figures : X → Figures) (st : State X) (call : Call) (number place : ℕ)
-    → outcome X keep figures st call .answer ≡ refused number place → ((1 ≤ number) × (number ≤ 15)) ⊎ ((21 ≤ number) × (number ≤ 24))
-in-table X keep figures st call number place e =
-    by-first (within 1 15 number) (within-yes 1 15 number) (subst N.NumberedAnswer e (call-numbered X keep figures st call))
+pub in-table : (X : Type 0) (K : Keeping X) (st : State X) (call : Call) (number place : ℕ)
+    → outcome K st call .answer ≡ refused number place → ((1 ≤ number) × (number ≤ 15)) ⊎ ((21 ≤ number) × (number ≤ 24))
+in-table X K st call number place e =
+    by-first (within 1 15 number) (within-yes 1 15 number) (subst N.NumberedAnswer e (call-numbered X K st call))
   where
     by-first : (t : Bool) → (T t → Within 1 15 number) → T (t || within 21 24 number)
         → ((1 ≤ number) × (number ≤ 15)) ⊎ ((21 ≤ number) × (number ≤ 24))
     by-first true first listed = let w = first tt in inl (w .from, w .to)
     by-first false first listed = let w = within-yes 21 24 number listed in inr (w .from, w .to)
 
--- ---- over lists of calls the figures answer as the file does, and an empty row is a refused one
+-- ---- over lists of calls what a session keeps answers as the file does, and an empty row is a refused one
 
 pub same-outcomes : (calls : List Call) (st : State Bytes)
-    → outcomes Figures figuresOf (λ F. F) (heldState st) calls ≡ map heldOutcome (outcomes Bytes (λ f. f) figuresOf st calls)
-same-outcomes = outcomes-on-figures
+    → outcomes inSession (mapState keptOf st) calls ≡ map (mapOutcome keptOf) (outcomes theFile st calls)
+same-outcomes = outcomes-alike theFile inSession keptOf session-alike
 
 pub row-empty : (f : Bytes) (channel year : ℕ) → (rowPart f channel year ≡ []) ↔ (rowCheck f channel year ≢ clear)
 row-empty = empty-is-refused

@@ -1,8 +1,8 @@
 -- Amounts to 2^44 once more, in plain numbers: what number 9 takes, that files with amounts to 2^40 give what they gave, and how large
--- whatever is made of an accepted file's amounts may become. Nothing of `LargerAmounts` and `FileLimits` is named in what is said, so that
--- none of their laws can be weakened and still give these.
+-- whatever is made of an accepted file's amounts may become. Nothing of `LargerAmounts`, `FileChain` and `ChainLimits` is named in what is
+-- said, so that none of their laws can be weakened and still give these.
 use Prim.Native.Nat.{ℕ, _+_, _*_, _-_, _^_, _≤_, _<_}
-use mathlib.Core.Path.{_≡_, refl}
+use mathlib.Core.Path.{_≡_, refl, subst}
 use mathlib.Core.Logic.{_⊎_, _↔_}
 use mathlib.Core.Bool.{true}
 use borrow.Author.Tests.{le-leb}
@@ -12,17 +12,20 @@ use Rattle.integers.specs.Sum.{sum}
 use Rattle.definitions.specs.Words.{within}
 use Rattle.definitions.specs.Layout.{Bytes, lastYear, cells, amount, amountAt}
 use Rattle.definitions.specs.Logarithm.{logarithm}
-use Rattle.definitions.specs.Observations.{Chain, chainOf, paidStep, incurredStep, lastRatio}
+use Rattle.definitions.specs.Weight.{weight}
+use Rattle.definitions.specs.Observations.{Chain, chainOf, σ², τ², paidStep, incurredStep, lastRatio}
 use Rattle.definitions.specs.Loss.{Vector}
-use Rattle.definitions.specs.Matrix.{Figures, matrix, ratiosOfLast, rightHand, residueTimes}
+use Rattle.definitions.specs.Matrix.{matrix, ratiosOfLast, rightHand, residueTimes}
 use Rattle.definitions.specs.Refusals.{Check, unless, fields, _then_, goodAmount, fileCheck, rowCheck, isClear, accepted}
 use Rattle.definitions.specs.Refusals.{check1, check2, check3, check4, check5, check6, check7, check8, check10}
-use Rattle.definitions.specs.Machine.{empty, openUnless, openCall}
+use Rattle.definitions.specs.Machine.{Keeping, empty, openUnless, openCall}
 use Rattle.laws.specs.Accepted.{AcceptedFile, within-yes, accepted-file}
 use Rattle.laws.specs.AcceptedBefore.{still-accepted, opened-alike, row-alike}
 use Rattle.laws.specs.LargerAmounts.{fileCheck-is, amounts-kept, same-but-between}
-use Rattle.laws.specs.FileLimits.{logarithm-limit, x-limit, z-limit, y-limit, x-sum-fits, z-sum-fits}
-use Rattle.laws.specs.FileLimits.{phi-firsts, psi-firsts, ratios-fit, right-hand-fits, residue-fits, numerator-fits}
+use Rattle.laws.specs.Chains.{Bounded}
+use Rattle.laws.specs.ChainLimits.{phi-firsts, psi-firsts, ratios-fit, right-hand-fits, residue-fits, numerator-fits}
+use Rattle.laws.specs.Columns.{firsts-of-phi, firsts-of-psi}
+use Rattle.laws.specs.FileChain.{logarithm-limit, x-limit, z-limit, y-limit, x-sum-fits, z-sum-fits, file-chain}
 
 -- the amounts that number 9 calls good
 pub amount-taken : (a : ℕ) → (goodAmount a ≡ true) ↔ ((1 ≤ a) × (a ≤ 17592186044416))
@@ -55,8 +58,7 @@ module _ (f : Bytes) where
     pub as-before : accepted f ≡ true
     as-before = still-accepted f (upTo 1099511627776) (amounts-kept f) was
 
-    pub opened-as-before : (X : Type 0) (keep : Bytes → X) (figures : X → Figures)
-        → openUnless X keep figures (upTo 1099511627776) f ≡ openCall X keep figures empty f
+    pub opened-as-before : (X : Type 0) (K : Keeping X) → openUnless K (upTo 1099511627776) f ≡ openCall K empty f
     opened-as-before = opened-alike f (upTo 1099511627776) (amounts-kept f) was
 
     pub row-as-before : (channel year : ℕ)
@@ -73,6 +75,9 @@ module _ (f : Bytes) where
   module _ (yes-file : accepted f ≡ true) where
     known : AcceptedFile f
     known = accepted-file f yes-file
+
+    bounded : Bounded c
+    bounded = file-chain f known .0
 
     pub logarithm-to : (k : ℕ) → k < 2 * cells J → logarithm (amount f k) ≤ 46137344
     logarithm-to k below = logarithm-limit (amount f k) (known .amounts k below)
@@ -95,25 +100,27 @@ module _ (f : Bytes) where
 
     -- a part's prior and own observations, and the last ratios, as the right-hand side has them
     pub own-side-of-phi-to : (j : ℕ) → j ≤ J
-        → natAbs (pos (c .s j) *ℤ c .priorΦ j +ℤ pos (c .p j) *ℤ sum (J - j + 1) (λ i. c .x i j)) ≤ 1536 * 2 ^ 47
-    own-side-of-phi-to = phi-firsts f known
+        → natAbs (pos (c .s j) *ℤ c .priorΦ j +ℤ pos (weight (σ² f j)) *ℤ sum (J - j + 1) (λ i. c .x i j)) ≤ 1536 * 2 ^ 47
+    own-side-of-phi-to j below =
+        subst (λ z. natAbs z ≤ 1536 * 2 ^ 47) (firsts-of-phi c j (weight (σ² f j)) below (λ i there. refl)) (phi-firsts c bounded j below)
 
     pub own-side-of-psi-to : (j : ℕ) → j < J
-        → natAbs (pos (c .t j) *ℤ c .priorΨ j +ℤ pos (c .q j) *ℤ sum (J - j) (λ i. c .z i j)) ≤ 1536 * 2 ^ 47
-    own-side-of-psi-to = psi-firsts f known
+        → natAbs (pos (c .t j) *ℤ c .priorΨ j +ℤ pos (weight (τ² f j)) *ℤ sum (J - j) (λ i. c .z i j)) ≤ 1536 * 2 ^ 47
+    own-side-of-psi-to j below =
+        subst (λ z. natAbs z ≤ 1536 * 2 ^ 47) (firsts-of-psi c j (weight (τ² f j)) (λ i there. refl)) (psi-firsts c bounded j below)
 
     pub ratios-to : (m : ℕ) → m ≤ J → natAbs (ratiosOfLast c m) ≤ 660 * 2 ^ 47
-    ratios-to = ratios-fit f known
+    ratios-to = ratios-fit c bounded
 
     pub right-hand-to : (k : ℕ) → k < 2 * J + 1 → natAbs (rightHand c k) ≤ 2196 * 2 ^ 47
-    right-hand-to = right-hand-fits f known
+    right-hand-to = right-hand-fits c bounded
 
     -- of a mean inside the limits
     pub residue-to : (μ : Vector) → ((l : ℕ) → l < 2 * J + 1 → natAbs (μ l) ≤ 67108864)
         → (k : ℕ) → k < 2 * J + 1 → natAbs (residueTimes c 1 μ k) ≤ 19732 * 2 ^ 47
-    residue-to = residue-fits f known
+    residue-to = residue-fits c bounded
 
     -- what a step divides, which is below 2^63
     pub divided-to : (μ : Vector) → ((l : ℕ) → l < 2 * J + 1 → natAbs (μ l) ≤ 67108864)
         → (k : ℕ) → k < 2 * J + 1 → natAbs (matrix c k k -ℤ pos 2 *ℤ residueTimes c 1 μ k) ≤ 39465 * 2 ^ 47
-    divided-to = numerator-fits f known
+    divided-to = numerator-fits c bounded

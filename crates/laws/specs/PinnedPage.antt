@@ -12,7 +12,7 @@ use lib.Seq.{drop-drop, take-take}
 use Rattle.definitions.specs.Words.{part}
 use Rattle.definitions.specs.Layout.{Bytes, lastYear}
 use Rattle.definitions.specs.Observations.{chainOf}
-use Rattle.definitions.specs.Matrix.{Φ, Ψ, partOf, own, figuresOf}
+use Rattle.definitions.specs.Matrix.{Φ, Ψ, partOf, own, figuresFrom, figuresOf}
 use Rattle.definitions.specs.Text.{ascii, readNumber, nameOf, indexOf}
 use Rattle.definitions.specs.Page.{pageLine, pageOf, PageFits}
 use Rattle.definitions.specs.Refusals.{accepted}
@@ -69,7 +69,7 @@ module _ (f : Bytes) (yes-file : accepted f ≡ true) (μ : List ℤ)
     ticks-on-page = ap readNumber (piece 7 9 (omega arith)) ∙ fits .fits k below .ticks-read
 
     pub weight-on-page : readNumber (take 10 (drop (28 * k + 17) page)) ≡ some (pos (own (chainOf f) k))
-    unfolding figuresOf
+    unfolding figuresFrom
     weight-on-page =
         ap readNumber (piece 17 10 (omega arith))
         ∙ fits .fits k below .weight-read

@@ -13,10 +13,10 @@ use Rattle.definitions.specs.Words.{within}
 use Rattle.definitions.specs.Layout.{Bytes, lastYear, priorVariance, priorVarianceAt}
 use Rattle.definitions.specs.Weight.{weight}
 use Rattle.definitions.specs.Observations.{Chain, chainOf, σ², τ², paidStep, incurredStep}
-use Rattle.definitions.specs.Matrix.{Figures, own, rightHand, ratiosOfLast}
+use Rattle.definitions.specs.Matrix.{own, rightHand, ratiosOfLast}
 use Rattle.definitions.specs.Refusals.{Check, unless, fields, _then_, goodPriorVariance, fileCheck, rowCheck, isClear, accepted}
 use Rattle.definitions.specs.Refusals.{check1, check2, check3, check4, check5, check6, check8, check9, check10}
-use Rattle.definitions.specs.Machine.{empty, openUnless, openCall}
+use Rattle.definitions.specs.Machine.{Keeping, empty, openUnless, openCall}
 use Rattle.laws.specs.Accepted.{Within, prior-yes}
 use Rattle.laws.specs.AcceptedBefore.{still-accepted, opened-alike, row-alike}
 use Rattle.laws.specs.FlatPriors.{priors-kept, same-but-for-0}
@@ -52,8 +52,7 @@ module _ (f : Bytes) where
     pub accepted-still : accepted f ≡ true
     accepted-still = still-accepted f with-priors (priors-kept f) was
 
-    pub opened-still : (X : Type 0) (keep : Bytes → X) (figures : X → Figures)
-        → openUnless X keep figures with-priors f ≡ openCall X keep figures empty f
+    pub opened-still : (X : Type 0) (K : Keeping X) → openUnless K with-priors f ≡ openCall K empty f
     opened-still = opened-alike f with-priors (priors-kept f) was
 
     pub row-still : (channel year : ℕ)

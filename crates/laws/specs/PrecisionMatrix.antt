@@ -23,12 +23,13 @@ module _ (c : Chain) where
   J = c .last
 
   abbrev pub firstsOf : Part → ℤ
-  firstsOf (Φ j) = pos (c .s j) *ℤ c .priorΦ j +ℤ pos (c .p j) *ℤ sum (J - j + 1) (λ i. c .x i j)
-  firstsOf (Ψ j) = pos (c .t j) *ℤ c .priorΨ j +ℤ pos (c .q j) *ℤ sum (J - j) (λ i. c .z i j)
+  firstsOf (Φ j) = pos (c .s j) *ℤ c .priorΦ j +ℤ sum (J - j + 1) (λ i. pos (c .p i j) *ℤ c .x i j)
+  firstsOf (Ψ j) = pos (c .t j) *ℤ c .priorΨ j +ℤ sum (J - j) (λ i. pos (c .q i j) *ℤ c .z i j)
 
   abbrev pub secondsOf : Part → ℤ
-  secondsOf (Φ j) = pos (c .s j) *ℤ (c .priorΦ j *ℤ c .priorΦ j) +ℤ pos (c .p j) *ℤ sum (J - j + 1) (λ i. c .x i j *ℤ c .x i j)
-  secondsOf (Ψ j) = pos (c .t j) *ℤ (c .priorΨ j *ℤ c .priorΨ j) +ℤ pos (c .q j) *ℤ sum (J - j) (λ i. c .z i j *ℤ c .z i j)
+  secondsOf (Φ j) =
+      pos (c .s j) *ℤ (c .priorΦ j *ℤ c .priorΦ j) +ℤ sum (J - j + 1) (λ i. pos (c .p i j) *ℤ (c .x i j *ℤ c .x i j))
+  secondsOf (Ψ j) = pos (c .t j) *ℤ (c .priorΨ j *ℤ c .priorΨ j) +ℤ sum (J - j) (λ i. pos (c .q i j) *ℤ (c .z i j *ℤ c .z i j))
 
   -- the combination of development year d is the ratio of accident year J − d
   abbrev pub lossForm : Form

@@ -9,16 +9,18 @@ use borrow.Author.Tests.{le-leb, lt-leb}
 use lib.IntN.{ℤ, natAbs}
 use lib.ListN.{length, length-append}
 use Rattle.definitions.specs.Words.{tabFrom, part}
-use Rattle.definitions.specs.Layout.{Bytes, lastYear, parts, priorMean}
+use Rattle.definitions.specs.Layout.{Bytes, lastYear, closeness, parts, priorMean}
 use Rattle.definitions.specs.Refusals.{Check, clear, refuses, fileCheck, yearLimit, partLimit, isClear, accepted}
-use Rattle.definitions.specs.Matrix.{Part, partOf, Figures, figuresOf, passes}
+use Rattle.definitions.specs.Observations.{chainOf}
+use Rattle.definitions.specs.Matrix.{Part, partOf, Figures, figuresFrom, figuresOf, passes}
 use Rattle.definitions.specs.Sweep.{Swept, sweeps}
 use Rattle.definitions.specs.Text.{ascii, space, lineFeed, moreDigits, decimal, signedDecimal, nameOf, indexOf, lines}
 use Rattle.definitions.specs.Machine.{Answer, refused, opened, judged, settled, going, written, part-shown, row-is-shown, closed}
-use Rattle.definitions.specs.Machine.{State, empty, holds, Outcome, openUnless, openCall, sweepCall}
+use Rattle.definitions.specs.Machine.{State, empty, holds, mapState, Outcome, theFile, openUnless, openCall, sweepCall}
 use Rattle.definitions.specs.Programs.{countLine, partLine, refusalLine, spentLine, Show, printed, shown, sweepText, openText, programText}
 use Rattle.definitions.specs.Programs.{listed, listing}
 use Rattle.laws.specs.Accepted.{accepted-file}
+use Rattle.laws.specs.FileChain.{file-chain}
 use Rattle.laws.specs.SweepLaws.{MeanOf, sweeps-came}
 use Rattle.laws.specs.MachineLaws.{priors-mean}
 use Rattle.laws.specs.Decimal.{decimal-most, signed-most}
@@ -50,11 +52,11 @@ Ends given st closed = ⊥
 
 module _ (given : Bytes) where
   -- what an outcome's answer and state have printed
-  abbrev Prints : Outcome Figures → Type 0
+  abbrev Prints : Outcome Bytes → Type 0
   Prints o = (show : Show) → programText show given ≡ printed (o .answer) [] (λ total. shown show (o .state))
 
-  abbrev EndsWith : Outcome Figures → Type 0
-  EndsWith o = Ends given (o .state) (o .answer)
+  abbrev EndsWith : Outcome Bytes → Type 0
+  EndsWith o = Ends given (mapState figuresOf (o .state)) (o .answer)
 
   -- ---- sweep: of an accepted file it is not refused, and the mean that is held afterwards decides
 
@@ -68,37 +70,39 @@ module _ (given : Bytes) where
   end = sweeps F 4096 priors 0
 
   -- by the test of the prior means, and by that of the mean that was swept
-  abbrev swept : Bool → Bool → Outcome Figures
+  abbrev swept : Bool → Bool → Outcome Bytes
   swept at-once in-the-end =
-      cond at-once (record { answer = settled 0; state = holds F priors 0; buffer = [] })
+      cond at-once (record { answer = settled 0; state = holds given priors 0; buffer = [] })
       (record {
         answer = cond in-the-end (settled (end .swept)) (going (end .swept));
-        state = holds F (end .mean) (end .swept);
+        state = holds given (end .mean) (end .swept);
         buffer = [];
       })
 
   module _ (file : accepted given ≡ true) where
-    priors-inside : MeanOf given priors
+    priors-inside : MeanOf (lastYear given) priors
     priors-inside = priors-mean given (accepted-file given file)
 
-    settles : {μ : List ℤ} {total : ℕ} → MeanOf given μ → passes F (part μ) ≡ true
+    settles : {μ : List ℤ} {total : ℕ} → MeanOf (lastYear given) μ → passes F (part μ) ≡ true
         → ((show : Show) → programText show given ≡ show F μ total) → MeanSettled given (holds F μ total) total
     settles {μ} m p text = record { mean = μ; file = file; state = refl; passing = p; inside = λ k below. m .inside k; text = text }
 
     by-tests : (a b : Bool) → passes F (part priors) ≡ a → passes F (part (end .mean)) ≡ b → Prints (swept a b) → EndsWith (swept a b)
     by-tests true b p q text = settles priors-inside p text
-    by-tests false true p q text = settles (sweeps-came given (accepted-file given file) 4096 priors 0 priors-inside .mean) q text
+    by-tests false true p q text =
+        let carried = file-chain given (accepted-file given file) .1 in
+        settles (sweeps-came (chainOf given) (closeness given) carried 4096 priors 0 priors-inside .mean) q text
     by-tests false false p q text = text
 
   -- ---- the two calls
 
-  abbrev pub opening : Outcome Figures
-  opening = openCall Figures figuresOf (λ G. G) empty given
+  abbrev pub opening : Outcome Bytes
+  opening = openCall theFile empty given
 
-  abbrev sweepingFrom : State Figures → Outcome Figures
-  sweepingFrom st = sweepCall Figures figuresOf (λ G. G) st 4096
+  abbrev sweepingFrom : State Bytes → Outcome Bytes
+  sweepingFrom st = sweepCall figuresOf st 4096
 
-  abbrev pub sweeping : Outcome Figures
+  abbrev pub sweeping : Outcome Bytes
   sweeping = sweepingFrom (opening .state)
 
   pub long-text : 2807 ≤ length given → (show : Show) → programText show given ≡ refusalLine 1 0
@@ -121,8 +125,8 @@ module _ (given : Bytes) where
     unfolding openCall sweepCall sweepText
     swept-ends e = by-check (fileCheck given) refl e (λ show. by-open show e)
       where
-        opens : Check → Outcome Figures
-        opens c = openUnless Figures figuresOf (λ G. G) c given
+        opens : Check → Outcome Bytes
+        opens c = openUnless theFile c given
 
         by-check : (c : Check) → fileCheck given ≡ c → opened ≡ opens c .answer
             → Prints (sweepingFrom (opens c .state)) → EndsWith (sweepingFrom (opens c .state))
@@ -141,11 +145,12 @@ module _ (given : Bytes) where
   unfolding openCall
   ending = by-length (decLe 2807 (length given))
     where
-      answered : {c : Check} → fileCheck given ≡ c → openUnless Figures figuresOf (λ G. G) c given .answer ≡ opening .answer
-      answered e = ap (λ c. openUnless Figures figuresOf (λ G. G) c given .answer) (sym e)
+      answered : {c : Check} → fileCheck given ≡ c → openUnless theFile c given .answer ≡ opening .answer
+      answered e = ap (λ c. openUnless theFile c given .answer) (sym e)
 
       by-check : length given < 2807 → (c : Check) → fileCheck given ≡ c → Ending
-      by-check short clear e = record { state = sweeping .state; answer = sweeping .answer; ends = swept-ends short (answered e) }
+      by-check short clear e =
+          record { state = mapState figuresOf (sweeping .state); answer = sweeping .answer; ends = swept-ends short (answered e) }
       by-check short (refuses number place) e =
           record { state = empty; answer = refused number place; ends = refused-text short (answered e) }
 
@@ -207,7 +212,7 @@ listed-most F μ total years =
 
 module _ (given : Bytes) where
   years-to : accepted given ≡ true → figuresOf given .last ≤ yearLimit
-  unfolding figuresOf
+  unfolding figuresFrom
   years-to file = accepted-file given file .years .to
 
   -- enough that what is shown of a mean that settled is no longer

@@ -15,7 +15,7 @@ use Rattle.definitions.specs.Loss.{Vector}
 use Rattle.definitions.specs.Observations.{Chain}
 use Rattle.definitions.specs.Matrix.{own, matrix, rightHand, residueTimes}
 use Rattle.laws.specs.Sizes.{row-size}
-use Rattle.laws.specs.FileBounds.{Owned}
+use Rattle.laws.specs.Chains.{Owned}
 
 module _ (c : Chain) (m : ℕ) (u μ : Vector) (k : ℕ) where
   abbrev n : ℕ

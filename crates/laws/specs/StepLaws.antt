@@ -1,7 +1,7 @@
 -- One step of a sweep: it changes one part, which stays inside the limits; the new residues are the old plus the part's column times
 -- the change; and the loss does not grow.
 use Prim.Native.Nat.{ℕ, _*_, _≤_, _<_}
-use mathlib.Core.Path.{_≡_, sym, ap, _∙_, subst}
+use mathlib.Core.Path.{_≡_, refl, sym, ap, _∙_, subst}
 use mathlib.Core.Logic.{_≢_, _⊎_, inl, inr}
 use mathlib.Core.List.{List, [], _∷_}
 use mathlib.Core.Bool.{Bool, true, false, not, cond}
@@ -51,6 +51,12 @@ bringBack-inside z = by-side z (λ r. natAbs r ≤ partLimit) (λ _. omega arith
   where
     inside : bottom ≤ℤ z → z ≤ℤ top → natAbs z ≤ partLimit
     inside low high = simp linear (omega zarith)
+
+pub bringBack-of-inside : (z : ℤ) → natAbs z ≤ partLimit → bringBack z ≡ z
+bringBack-of-inside z inside = by-side z (λ r. r ≡ z)
+    (λ above. absurd (omega (zarith, simp linear at inside, simp linear at above)))
+    (λ below. absurd (omega (zarith, simp linear at inside, simp linear at below)))
+    (λ _ _. refl)
 
 -- ---- a part's change never raises the loss: A·δ² + 2·ρ·δ ≤ 0 for every δ from 0 to the floor of (A − 2ρ) / 2A
 

@@ -1,4 +1,4 @@
--- No step of a sweep raises the loss, and so no sweep does; a swept mean stays inside the limits.
+-- Where the chain is carried, no step of a sweep raises the loss, and so no sweep does; a swept mean stays inside the limits.
 use Prim.Native.Nat.{ℕ, zero, suc, _+_, _≤_, _<_}
 use mathlib.Core.Path.{_≡_, sym, ap, ap₂, _∙_, subst}
 use mathlib.Core.Logic.{_≢_}
@@ -15,15 +15,15 @@ use Rattle.integers.specs.Solver.{ring, _⊞_, _⊟_, _⊠_, num, _≐_}
 use Rattle.integers.specs.Sum.{sum, sum-cong, sum-+}
 use Rattle.integers.specs.SumRange.{sum-one}
 use Rattle.definitions.specs.Words.{part}
-use Rattle.definitions.specs.Layout.{Bytes, lastYear, parts}
+use Rattle.definitions.specs.Layout.{parts}
 use Rattle.definitions.specs.Loss.{Vector, loss}
 use Rattle.definitions.specs.Refusals.{partLimit}
-use Rattle.definitions.specs.Observations.{Chain, chainOf}
-use Rattle.definitions.specs.Matrix.{residueTimes, Figures, figuresOf, entry, residue, passes}
+use Rattle.definitions.specs.Observations.{Chain}
+use Rattle.definitions.specs.Matrix.{residueTimes, Figures, figuresFrom, entry, residue, passes}
 use Rattle.definitions.specs.Sweep.{change, step, sweepFrom, oneSweep, sweeps, sweepLimit}
-use Rattle.laws.specs.Accepted.{AcceptedFile}
+use Rattle.laws.specs.Chains.{Carried}
 use Rattle.laws.specs.Diagonal.{diagonal-positive}
-use Rattle.laws.specs.Judged.{entry-of-file, residue-of-file}
+use Rattle.laws.specs.Judged.{entry-of-chain, residue-of-chain}
 use Rattle.laws.specs.LossForm.{loss-is-form}
 use Rattle.laws.specs.PrecisionMatrix.{lossForm, residue-is-form}
 use Rattle.laws.specs.Quadratic.{Form, formLoss, formResidue, apart, along, ownSquares, combinedSquares, expansion, along-apart}
@@ -60,28 +60,28 @@ loss-difference c u μ =
         ring (r μ k ∷ r u k ∷ u k ∷ μ k ∷ []) (λ r s u v. r ⊠ (u ⊟ num 1 ⊠ v) ⊞ s ⊠ (u ⊟ num 1 ⊠ v) ≐ (r ⊞ s) ⊠ (u ⊟ v)) tt
         ∙ ap₂ (λ r s. (r +ℤ s) *ℤ (u k -ℤ μ k)) (sym (residue-is-form c 1 μ k below)) (sym (residue-is-form c 1 u k below))
 
--- a mean of a file: its parts, each inside the limits
-pub record MeanOf (f : Bytes) (μ : List ℤ) : Type 0 where
-  pub whole : length μ ≡ parts (lastYear f)
+-- a mean for a J: its parts, each inside the limits
+pub record MeanOf (J : ℕ) (μ : List ℤ) : Type 0 where
+  pub whole : length μ ≡ parts J
   pub inside : (l : ℕ) → natAbs (part μ l) ≤ partLimit
 
-module _ (f : Bytes) (h : AcceptedFile f) where
+module _ (c : Chain) (e : ℕ) (h : Carried c) where
   abbrev F : Figures
-  F = figuresOf f
+  F = figuresFrom c e
 
-  abbrev c : Chain
-  c = chainOf f
+  abbrev J : ℕ
+  J = c .last
 
-  diagonal-at-least-one : (k : ℕ) → k < parts (lastYear f) → pos 1 ≤ℤ entry F k k
+  diagonal-at-least-one : (k : ℕ) → k < parts J → pos 1 ≤ℤ entry F k k
   diagonal-at-least-one k below =
-      subst (λ z. pos 1 ≤ℤ z) (sym (entry-of-file f k k below below)) (diagonal-positive f h k below)
+      subst (λ z. pos 1 ≤ℤ z) (sym (entry-of-chain c e k k below below)) (diagonal-positive c h k below)
 
-  module _ (μ : List ℤ) (k : ℕ) (m : MeanOf f μ) (below : k < parts (lastYear f)) where
+  module _ (μ : List ℤ) (k : ℕ) (m : MeanOf J μ) (below : k < parts J) where
     there : k < length μ
     there = subst (λ n. k < n) (sym (m .whole)) below
 
     in-figures : k < parts (F .last)
-    unfolding figuresOf
+    unfolding figuresFrom
     in-figures = below
 
     -- the mean after the step, and what the step adds to part k
@@ -91,7 +91,7 @@ module _ (f : Bytes) (h : AcceptedFile f) where
     abbrev δ : ℤ
     δ = added F μ k in-figures there
 
-    pub step-mean : MeanOf f ν
+    pub step-mean : MeanOf J ν
     step-mean = record { whole = step-length F μ k in-figures there ∙ m .whole; inside = step-inside F μ k in-figures there (m .inside) }
 
     -- what part l adds to the loss
@@ -107,15 +107,15 @@ module _ (f : Bytes) (h : AcceptedFile f) where
 
     here : adds k ≡ δ *ℤ (pos 2 *ℤ residue F (part μ) k +ℤ entry F k k *ℤ δ)
     here =
-        let before = sym (residue-of-file f (part μ) k below) in
-        let after = sym (residue-of-file f (part ν) k below) ∙ step-residues F μ k in-figures there k in
+        let before = sym (residue-of-chain c e (part μ) k below) in
+        let after = sym (residue-of-chain c e (part ν) k below) ∙ step-residues F μ k in-figures there k in
         ap₂ (λ r v. r *ℤ (v -ℤ part μ k)) (ap₂ _+ℤ_ before after) (step-at F μ k in-figures there)
         ∙ ring (residue F (part μ) k ∷ entry F k k ∷ δ ∷ []) (λ r a d. (r ⊞ (r ⊞ a ⊠ d)) ⊠ d ≐ d ⊠ (num 2 ⊠ r ⊞ a ⊠ d)) tt
 
     difference : loss c (part ν) ≡ loss c (part μ) +ℤ δ *ℤ (pos 2 *ℤ residue F (part μ) k +ℤ entry F k k *ℤ δ)
     difference =
         loss-difference c (part ν) (part μ)
-        ∙ ap (λ s. loss c (part μ) +ℤ s) (sum-one (parts (lastYear f)) k below (λ l _ away. elsewhere l away) ∙ here)
+        ∙ ap (λ s. loss c (part μ) +ℤ s) (sum-one (parts J) k below (λ l _ away. elsewhere l away) ∙ here)
 
     pub step-lowers : loss c (part ν) ≤ℤ loss c (part μ)
     unfolding change
@@ -127,25 +127,25 @@ module _ (f : Bytes) (h : AcceptedFile f) where
 
   -- a mean that came of μ: a mean again, with a loss that is no larger
   pub record CameOf (μ ν : List ℤ) : Type 0 where
-    pub mean : MeanOf f ν
+    pub mean : MeanOf J ν
     pub lower : loss c (part ν) ≤ℤ loss c (part μ)
 
   came-further : {μ ν ξ : List ℤ} → CameOf μ ν → CameOf ν ξ → CameOf μ ξ
   came-further a b = record { mean = b .mean; lower = ≤ℤ-trans (b .lower) (a .lower) }
 
-  sweepFrom-came : (k n : ℕ) → k + n ≤ parts (lastYear f) → (μ : List ℤ) → MeanOf f μ → CameOf μ (sweepFrom F k n μ)
+  sweepFrom-came : (k n : ℕ) → k + n ≤ parts J → (μ : List ℤ) → MeanOf J μ → CameOf μ (sweepFrom F k n μ)
   unfolding sweepFrom
   sweepFrom-came k zero within μ m = record { mean = m; lower = ≤ℤ-refl (loss c (part μ)) }
   sweepFrom-came k (suc n) within μ m =
-      let below : k < parts (lastYear f) = omega arith in
+      let below : k < parts J = omega arith in
       let stepped : CameOf μ (step F k μ) = record { mean = step-mean μ k m below; lower = step-lowers μ k m below } in
       came-further stepped (sweepFrom-came (suc k) n (omega arith) (step F k μ) (stepped .mean))
 
-  pub oneSweep-came : (μ : List ℤ) → MeanOf f μ → CameOf μ (oneSweep F μ)
-  unfolding figuresOf
-  oneSweep-came μ m = sweepFrom-came 0 (parts (lastYear f)) (omega arith) μ m
+  pub oneSweep-came : (μ : List ℤ) → MeanOf J μ → CameOf μ (oneSweep F μ)
+  unfolding figuresFrom
+  oneSweep-came μ m = sweepFrom-came 0 (parts J) (omega arith) μ m
 
-  pub sweeps-came : (n : ℕ) (μ : List ℤ) (total : ℕ) → MeanOf f μ → CameOf μ (sweeps F n μ total .mean)
+  pub sweeps-came : (n : ℕ) (μ : List ℤ) (total : ℕ) → MeanOf J μ → CameOf μ (sweeps F n μ total .mean)
   unfolding sweeps
   sweeps-came zero μ total m = record { mean = m; lower = ≤ℤ-refl (loss c (part μ)) }
   sweeps-came (suc n) μ total m =

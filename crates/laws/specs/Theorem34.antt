@@ -1,13 +1,14 @@
 -- Theorem 3.4 of the paper, on rounded weights and in the specification's terms: for every vector the residue by the matrix is
 -- the residue observation by observation, and the loss of u/m expands around a mean with that residue and matrix as its coefficients.
-use Prim.Native.Nat.{ℕ, _+_, _*_, _-_, _<_}
+use Prim.Native.Nat.{ℕ, _+_, _-_, _<_}
 use mathlib.Core.Path.{_≡_, sym, ap, ap₂, _∙_}
 use mathlib.Core.List.{[], _∷_}
 use native.Mathlib.Omega.{arith}
 use lib.IntN.{ℤ, pos, negsuc, _+ℤ_, _-ℤ_, _*ℤ_}
 use Rattle.integers.specs.Ring.{*ℤ-idl}
 use Rattle.integers.specs.Solver.{ring, _⊞_, _⊟_, _⊠_, ⊖_, num, _≐_}
-use Rattle.integers.specs.Sum.{sum, sum-cong, sum-scale, sum-const, sum--}
+use Rattle.integers.specs.Sum.{sum, total, sum-cong, sum-scale, sum-scale-right, sum--}
+use Rattle.integers.specs.Total.{pos-total}
 use Rattle.definitions.specs.Layout.{parts}
 use Rattle.definitions.specs.Loss.{Vector, weighted, ratio, loss, lossTimes}
 use Rattle.definitions.specs.Observations.{Chain}
@@ -17,13 +18,15 @@ use Rattle.laws.specs.LossForm.{combined-is-ratio, loss-is-form}
 use Rattle.laws.specs.PrecisionMatrix.{lossForm, firstsOf, by-development, felt-by-rank, residue-is-form}
 use Rattle.laws.specs.Ranks.{rankOf, signOf, rank-below}
 
--- n observations of one weight: the sum of weight times difference
-column : (w n : ℕ) (o : ℕ → ℤ) (m v : ℤ) → sum n (λ i. pos w *ℤ (v -ℤ m *ℤ o i)) ≡ pos (n * w) *ℤ v -ℤ m *ℤ (pos w *ℤ sum n o)
+-- n observations with their weights: the sum of weight times difference
+column : (w : ℕ → ℕ) (n : ℕ) (o : ℕ → ℤ) (m v : ℤ)
+    → sum n (λ i. pos (w i) *ℤ (v -ℤ m *ℤ o i)) ≡ pos (total n w) *ℤ v -ℤ m *ℤ sum n (λ i. pos (w i) *ℤ o i)
 column w n o m v =
-    sum-cong n (λ i _. ring (pos w ∷ v ∷ m ∷ o i ∷ []) (λ w v m o. w ⊠ (v ⊟ m ⊠ o) ≐ w ⊠ v ⊟ m ⊠ w ⊠ o) tt)
-    ∙ sum-- n (λ i. pos w *ℤ v) (λ i. m *ℤ pos w *ℤ o i)
-    ∙ ap₂ _-ℤ_ (sum-const n (pos w *ℤ v)) (sum-scale n (m *ℤ pos w) o)
-    ∙ ring (pos n ∷ pos w ∷ v ∷ m ∷ sum n o ∷ []) (λ n w v m s. n ⊠ (w ⊠ v) ⊟ m ⊠ w ⊠ s ≐ n ⊠ w ⊠ v ⊟ m ⊠ (w ⊠ s)) tt
+    sum-cong n (λ i _. ring (pos (w i) ∷ v ∷ m ∷ o i ∷ []) (λ w v m o. w ⊠ (v ⊟ m ⊠ o) ≐ w ⊠ v ⊟ m ⊠ (w ⊠ o)) tt)
+    ∙ sum-- n (λ i. pos (w i) *ℤ v) (λ i. m *ℤ (pos (w i) *ℤ o i))
+    ∙ ap₂ _-ℤ_
+    (sum-scale-right n v (λ i. pos (w i)) ∙ ap (λ z. z *ℤ v) (sym (pos-total n w)))
+    (sum-scale n m (λ i. pos (w i) *ℤ o i))
 
 module _ (c : Chain) where
   abbrev J : ℕ
@@ -36,26 +39,26 @@ module _ (c : Chain) where
 
     -- weight times difference: the prior and the part's own observations, then the ratios that it shares in
     abbrev ownMissed : Part → ℤ → ℤ
-    ownMissed (Φ j) v = pos (c .s j) *ℤ (v -ℤ pos m *ℤ c .priorΦ j) +ℤ sum (J - j + 1) (λ i. pos (c .p j) *ℤ (v -ℤ pos m *ℤ c .x i j))
-    ownMissed (Ψ j) v = pos (c .t j) *ℤ (v -ℤ pos m *ℤ c .priorΨ j) +ℤ sum (J - j) (λ i. pos (c .q j) *ℤ (v -ℤ pos m *ℤ c .z i j))
+    ownMissed (Φ j) v = pos (c .s j) *ℤ (v -ℤ pos m *ℤ c .priorΦ j) +ℤ sum (J - j + 1) (λ i. pos (c .p i j) *ℤ (v -ℤ pos m *ℤ c .x i j))
+    ownMissed (Ψ j) v = pos (c .t j) *ℤ (v -ℤ pos m *ℤ c .priorΨ j) +ℤ sum (J - j) (λ i. pos (c .q i j) *ℤ (v -ℤ pos m *ℤ c .z i j))
 
     abbrev pub observedResidue : Part → ℤ → ℤ
     observedResidue (Φ j) v = ownMissed (Φ j) v +ℤ ratiosMissed j
     observedResidue (Ψ j) v = ownMissed (Ψ j) v -ℤ ratiosMissed (j + 1)
 
-    own-side : (w n s : ℕ) (o : ℕ → ℤ) (prior v : ℤ)
-        → pos (s + n * w) *ℤ v -ℤ pos m *ℤ (pos s *ℤ prior +ℤ pos w *ℤ sum n o)
-        ≡ pos s *ℤ (v -ℤ pos m *ℤ prior) +ℤ sum n (λ i. pos w *ℤ (v -ℤ pos m *ℤ o i))
+    own-side : (w : ℕ → ℕ) (n s : ℕ) (o : ℕ → ℤ) (prior v : ℤ)
+        → pos (s + total n w) *ℤ v -ℤ pos m *ℤ (pos s *ℤ prior +ℤ sum n (λ i. pos (w i) *ℤ o i))
+        ≡ pos s *ℤ (v -ℤ pos m *ℤ prior) +ℤ sum n (λ i. pos (w i) *ℤ (v -ℤ pos m *ℤ o i))
     own-side w n s o prior v =
-        ring (pos s ∷ pos (n * w) ∷ v ∷ pos m ∷ prior ∷ (pos w *ℤ sum n o) ∷ [])
-        (λ s nw v m p x. (s ⊞ nw) ⊠ v ⊟ m ⊠ (s ⊠ p ⊞ x) ≐ s ⊠ (v ⊟ m ⊠ p) ⊞ (nw ⊠ v ⊟ m ⊠ x)) tt
+        ring (pos s ∷ pos (total n w) ∷ v ∷ pos m ∷ prior ∷ sum n (λ i. pos (w i) *ℤ o i) ∷ [])
+        (λ s w v m p x. (s ⊞ w) ⊠ v ⊟ m ⊠ (s ⊠ p ⊞ x) ≐ s ⊠ (v ⊟ m ⊠ p) ⊞ (w ⊠ v ⊟ m ⊠ x)) tt
         ∙ ap (λ z. pos s *ℤ (v -ℤ pos m *ℤ prior) +ℤ z) (sym (column w n o (pos m) v))
 
     by-kind : (a : Part) (v : ℤ)
         → pos (ownOf c a) *ℤ v -ℤ pos m *ℤ firstsOf c a +ℤ signOf a *ℤ ratiosMissed (rankOf a) ≡ observedResidue a v
-    by-kind (Φ j) v = ap₂ _+ℤ_ (own-side (c .p j) (J - j + 1) (c .s j) (λ i. c .x i j) (c .priorΦ j) v) (*ℤ-idl (ratiosMissed j))
+    by-kind (Φ j) v = ap₂ _+ℤ_ (own-side (λ i. c .p i j) (J - j + 1) (c .s j) (λ i. c .x i j) (c .priorΦ j) v) (*ℤ-idl (ratiosMissed j))
     by-kind (Ψ j) v =
-        ap (λ z. z +ℤ negsuc 0 *ℤ ratiosMissed (j + 1)) (own-side (c .q j) (J - j) (c .t j) (λ i. c .z i j) (c .priorΨ j) v)
+        ap (λ z. z +ℤ negsuc 0 *ℤ ratiosMissed (j + 1)) (own-side (λ i. c .q i j) (J - j) (c .t j) (λ i. c .z i j) (c .priorΨ j) v)
         ∙ ring (ownMissed (Ψ j) v ∷ ratiosMissed (j + 1) ∷ []) (λ o r. o ⊞ ⊖ num 1 ⊠ r ≐ o ⊟ r) tt
 
     felt-is-missed : (k : ℕ) → k < parts J → let a : Part = partOf J k in

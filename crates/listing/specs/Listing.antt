@@ -9,7 +9,7 @@ use lib.Seq.{append-snoc, take-append-le, drop-append-le}
 use Rattle.definitions.specs.Words.{part}
 use Rattle.definitions.specs.Layout.{Bytes, bigEndian, unsigned, twosComplement, signed, lastYear, parts, partAt, recordOf}
 use Rattle.definitions.specs.Refusals.{yearLimit}
-use Rattle.definitions.specs.Matrix.{Part, partOf, Figures, figuresOf}
+use Rattle.definitions.specs.Matrix.{Part, partOf, Figures, figuresFrom, figuresOf}
 use Rattle.definitions.specs.Text.{ascii, space, lineFeed, decimal, signedDecimal, nameOf, indexOf, lines}
 use Rattle.definitions.specs.Machine.{State, recordIn}
 use Rattle.definitions.specs.Programs.{countLine, partLine, listed, listing}
@@ -49,6 +49,6 @@ record-lines J μ rest inside = lines-same _ _ (parts J) (λ k below.
 pub listing-put : {given : Bytes} {st : State Figures} {total : ℕ} (m : MeanSettled given st total)
     → {last : ℕ} {r : Bytes} (rest : Bytes) → last ≡ lastYear given → r ≡ recordIn (figuresOf given) (m .mean) ++ rest
     → (countLine (ascii "J ") last ++ countLine (ascii "sweeps ") total) ++ recordLines last r ≡ listing given
-unfolding listed figuresOf
+unfolding listed figuresFrom
 listing-put {given} m rest years is =
     rw (years, is, record-lines (lastYear given) (m .mean) rest (m .inside)) refl ∙ sym (m .text listed)

@@ -1,20 +1,28 @@
--- What opening a file that the checks let pass gives: figures that fit, and the prior means as mean.
+-- What opening a file that the checks let pass gives: its observations, figures that fit, and the prior means as mean.
 use Prim.Native.Nat.{ℕ, _<_}
 use mathlib.Core.Path.{_≡_, refl, sym, ap, subst, _∙_}
 use mathlib.Core.List.{List}
 use native.Mathlib.Omega.{arith}
 use lib.IntN.{ℤ}
 use Rattle.definitions.specs.Words.{part, tabFrom}
-use Rattle.definitions.specs.Layout.{Bytes, lastYear, parts, priorMean}
+use Rattle.definitions.specs.Layout.{Bytes, lastYear, closeness, parts, priorMean, amount}
 use Rattle.definitions.specs.Refusals.{clear, fileCheck, isClear}
+use Rattle.definitions.specs.Observations.{chainOf}
 use Rattle.definitions.specs.Matrix as D
 use Rattle.laws.specs.Accepted.{AcceptedFile, accepted-file}
+use Rattle.laws.specs.FileChain.{logarithm-limit}
+use Rattle.laws.specs.FileWeights.{part-to, prior-to, g-to}
 use Rattle.laws.specs.Tables.{tab-cong}
+use Rattle.observations.specs.declared.Observations.{Observations}
+use Rattle.observations.specs.Arrays.{observationsAt}
+use Rattle.observations.specs.Reading.{Observes}
+use Rattle.observations.specs.Means.{OfMeans, PriorMeans}
+use Rattle.observations.specs.OfFile.{holds-chain, kept}
 use Rattle.chain.specs.declared.arrays.Figures.{Figures}
-use Rattle.chain.specs.Arrays.{figuresOf, meanOf}
+use Rattle.chain.specs.Arrays.{figuresAt, figuresOf, meanOf}
 use Rattle.chain.specs.Fitting.{Fitting}
 use Rattle.chain.specs.AcceptedFits.{file-fits}
-use Rattle.figures.specs.Reading.{PriorMeans}
+use Rattle.figures.specs.Gathered.{OfObservations, FiguresOf}
 use Rattle.holding.specs.State.{Held, Fits}
 use Rattle.opening.specs.declared.OpenAnswer.the-variants.{Opened}
 use Rattle.opening.specs.Opens.{Opens}
@@ -23,35 +31,59 @@ use Rattle.opening.specs.OpenLaws.{opens-done}
 pub file-accepted : (file : Bytes) → fileCheck file ≡ clear → AcceptedFile file
 file-accepted file passed = accepted-file file (ap isClear passed)
 
-module _ (file : Bytes) (passed : fileCheck file ≡ clear) (F : Figures) (same : figuresOf F ≡ D.figuresOf file) where
-  fitting : Fitting (figuresOf F)
-  fitting = subst Fitting (sym same) (file-fits file (file-accepted file passed))
+module _ (f : Bytes) (passed : fileCheck f ≡ clear) {ticks : List ℤ} {weights variances : List ℕ}
+    (o : Observes f ticks weights variances) where
+  abbrev J : ℕ
+  J = lastYear f
 
-  same-year : F .last ≡ lastYear file
-  unfolding figuresOf D.figuresOf
-  same-year = ap (λ x. x .last) same
+  known : AcceptedFile f
+  known = file-accepted f passed
 
-  module _ (mean : List ℤ) (priors : PriorMeans file mean) where
+  -- ---- what is asked of the observations
+
+  pub of-means : OfMeans ticks J
+  of-means = record {
+    few = known .years .to;
+    small = λ k below. rw (o .parts-are .all .means-are k below) (known .prior-means k below);
+  }
+
+  pub of-observations : OfObservations ticks weights J
+  of-observations = let read = o .parts-are .all in record {
+    few = known .years .to;
+    logs-small = λ c below.
+        rw (read .logarithms .all .there c below) (omega (arith, logarithm-limit (amount f c) (known .amounts c below)));
+    means-small = of-means .small;
+    columns-small = λ k below. rw (read .weights-are k below) (part-to f known k below);
+    priors-small = λ k below. rw (read .priors-are k below) (prior-to f known k below);
+    ratios-small = λ d below. rw (o .ratios-are d below) (g-to f known d below);
+  }
+
+  -- ---- what is held afterwards
+
+  module _ {own : List ℕ} {A b mean : List ℤ} (made : FiguresOf ticks weights J own A b) (priors : PriorMeans ticks J mean) where
+    abbrev F : Figures
+    F = figuresAt J (closeness f) own A b
+
     abbrev after : Held
     after = record { figures = F; mean = mean; total = 0 }
 
-    part-is : (k : ℕ) → k < parts (F .last) → part mean k ≡ priorMean file k
-    part-is k below = priors .filled .front k (omega (arith, same-year))
+    same : figuresOf F ≡ D.figuresOf f
+    same = made .are (chainOf f) refl (holds-chain f known o) (closeness f)
+
+    part-is : (k : ℕ) → k < parts J → part mean k ≡ priorMean f k
+    part-is k below = priors .filled .front k below ∙ o .parts-are .all .means-are k below
 
     after-fits : Fits after
     after-fits = record {
-      holding = omega (arith, same-year, file-accepted file passed .years .from);
-      fitting = fitting;
-      inside = record {
-        small = λ k below. rw (part-is k below) (file-accepted file passed .prior-means k (omega (arith, same-year)));
-      };
+      holding = known .years .from;
+      fitting = subst Fitting (sym same) (file-fits f known);
+      inside = record { small = λ k below. rw (part-is k below) (known .prior-means k below) };
       few = omega arith;
     }
 
-    mean-is : meanOf (F .last) mean ≡ tabFrom 0 (parts (lastYear file)) (priorMean file)
-    mean-is =
-        tab-cong 0 (parts (F .last)) (λ k from below. part-is k (omega arith))
-        ∙ ap (λ J. tabFrom 0 (parts J) (priorMean file)) same-year
+    mean-is : meanOf J mean ≡ tabFrom 0 (parts J) (priorMean f)
+    mean-is = tab-cong 0 (parts J) (λ k from below. part-is k (omega arith))
 
-    pub done : (s : Held) → ¬ Fits s → Opens s file Opened after
-    done s closed = opens-done s file closed passed after after-fits same mean-is refl
+    pub done : (s : Held) (before : Observations) → ¬ Fits s → Opens s before f Opened after (observationsAt ticks weights variances)
+    done s before closed =
+        opens-done s before f closed passed after (observationsAt ticks weights variances) after-fits same (kept f known o) mean-is refl

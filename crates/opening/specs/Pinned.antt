@@ -5,42 +5,55 @@ use native.Mathlib.Omega.{arith}
 use Rattle.definitions.specs.Words.{tabFrom}
 use Rattle.definitions.specs.Layout.{Bytes, lastYear, parts, priorMean}
 use Rattle.definitions.specs.Refusals.{Check, clear, refuses, fileCheck, isClear}
-use Rattle.definitions.specs.Matrix.{Figures, figuresOf}
-use Rattle.definitions.specs.Machine.{Answer, opened, refused, empty, Outcome, openUnless, openCall}
+use Rattle.definitions.specs.Machine.{Answer, opened, refused, empty, holds, mapState, Outcome, openUnless, openCall}
+use Rattle.definitions.specs.Kept.{Kept, keptOf, inSession}
 use Rattle.laws.specs.Number16.{openWith16, alike-without-16}
-use Rattle.holding.specs.State.{Held, stateOf, HoldsFile}
+use Rattle.observations.specs.declared.Observations.{Observations}
+use Rattle.holding.specs.State.{Held, stateOf, keptWith, sessionState, HoldsFile}
+use Rattle.holding.specs.StateLaws.{held-of-session}
 use Rattle.opening.specs.declared.OpenAnswer.{OpenAnswer}
 use Rattle.opening.specs.declared.OpenAnswer.the-variants.{Opened, Refused}
 use Rattle.opening.specs.Opens.{ofOpen, opensTo, Opens}
 
 -- a call that is refused leaves the session as it was
-pub open-refused : (s t : Held) (file : Bytes) (number place : ℕ) → Opens s file (Refused number place) t → t ≡ s
-open-refused s t file number place call = call .same number place refl
+pub open-refused : (s t : Held) (o p : Observations) (file : Bytes) (number place : ℕ) → Opens s o file (Refused number place) t p
+    → (t ≡ s) × (p ≡ o)
+open-refused s t o p file number place call = call .same number place refl
 
--- ---- what open leaves is a file that the other calls speak of
+-- ---- what open leaves is a file that the other calls speak of, with its observations
 
 opened-refused : {number place : ℕ} → _≡_ {A = Answer} opened (refused number place) → ⊥
 opened-refused e = let z : _≡_ {A = ℕ} 0 1 = cc in omega arith
 
-pub opened-holds : (s t : Held) (f : Bytes) → stateOf s ≡ empty → Opens s f Opened t
-    → HoldsFile t f (tabFrom 0 (parts (lastYear f)) (priorMean f)) 0
-unfolding openCall
-opened-holds s t f none call =
-    by-check (fileCheck f) refl (call .answer ∙ ap (λ st. opensTo st f .answer) none) (call .state ∙ ap (λ st. opensTo st f .state) none)
-  where
-    to : Check → Outcome Figures
-    to c = openUnless Figures figuresOf (λ F. F) c f
+module _ (s t : Held) (o p : Observations) (f : Bytes) (none : stateOf s ≡ empty) (call : Opens s o f Opened t p) where
+  abbrev to : Check → Outcome Kept
+  to c = openUnless inSession c f
 
-    by-check : (c : Check) → fileCheck f ≡ c → opened ≡ to c .answer → stateOf t ≡ to c .state
-        → HoldsFile t f (tabFrom 0 (parts (lastYear f)) (priorMean f)) 0
-    by-check clear e a st = record { file = ap isClear e; state = st }
-    by-check (refuses number place) e a st = absurd (opened-refused a)
+  opened-to : (fileCheck f ≡ clear) × (sessionState p t ≡ to clear .state)
+  unfolding openCall
+  opened-to =
+      by-check (fileCheck f) refl (call .answer ∙ ap (λ st. opensTo (mapState (keptWith o) st) f .answer) none)
+      (call .state ∙ ap (λ st. opensTo (mapState (keptWith o) st) f .state) none)
+    where
+      by-check : (c : Check) → fileCheck f ≡ c → opened ≡ to c .answer → sessionState p t ≡ to c .state
+          → (fileCheck f ≡ clear) × (sessionState p t ≡ to clear .state)
+      by-check clear e a st = (e, st)
+      by-check (refuses number place) e a st = absurd (opened-refused a)
+
+  pub opened-keeps : sessionState p t ≡ holds (keptOf f) (tabFrom 0 (parts (lastYear f)) (priorMean f)) 0
+  opened-keeps = opened-to .1
+
+  pub opened-holds : HoldsFile t f (tabFrom 0 (parts (lastYear f)) (priorMean f)) 0
+  opened-holds = record {
+    file = ap isClear (opened-to .0);
+    state = sym (held-of-session p t) ∙ ap (mapState (λ x. x .figures)) opened-keeps;
+  }
 
 -- ---- document 02: with number 16 behind 1 to 10, of every session and file, it would answer and leave the same
 
-pub as-with-16 : (s t : Held) (f : Bytes) (r : OpenAnswer) → Opens s f r t
-    → let o : Outcome Figures = openWith16 Figures figuresOf (λ F. F) (stateOf s) f in
-    (ofOpen r ≡ o .answer) × (stateOf t ≡ o .state)
-as-with-16 s t f r call =
-    let same = sym (alike-without-16 Figures figuresOf (λ F. F) (stateOf s) f) in
-    (call .answer ∙ ap (λ o. o .answer) same, call .state ∙ ap (λ o. o .state) same)
+pub as-with-16 : (s t : Held) (o p : Observations) (f : Bytes) (r : OpenAnswer) → Opens s o f r t p
+    → let with-16 : Outcome Kept = openWith16 Kept inSession (sessionState o s) f in
+    (ofOpen r ≡ with-16 .answer) × (sessionState p t ≡ with-16 .state)
+as-with-16 s t o p f r call =
+    let same = sym (alike-without-16 Kept inSession (sessionState o s) f) in
+    (call .answer ∙ ap (λ x. x .answer) same, call .state ∙ ap (λ x. x .state) same)

@@ -1,11 +1,15 @@
-// The call `open`, over a session whose arrays are lent: the figures of the file and its prior means are held from then on.
+// The call `open`, over a session whose arrays are lent: the observations of the file, the figures that are made of them and the prior
+// means are held from then on.
 ghost use Rattle.holding.specs.State.{heldIn};
+ghost use Rattle.observations.specs.Arrays.{observationsAt};
 ghost use Rattle.opening.specs.Opens.{Opens};
 use figures::figures_in;
 use holding::bounds::is_open;
 use layout::checks::Check;
 use layout::checks::file::check_file;
 use layout::places::last_year;
+use observations::means::start_mean;
+use observations::observe;
 use readings::closeness_of;
 
 pub enum OpenAnswer {
@@ -21,12 +25,17 @@ pub fn open_lent<'a>(
     matrix: &'a mut [i64; 961],
     right_hand: &'a mut [i64; 31],
     mean: &'a mut [i64; 31],
+    ticks: &'a mut [i64; 303],
+    weights: &'a mut [u64; 77],
+    variances: &'a mut [u64; 31],
     file: &'a [u8],
 ) -> OpenAnswer
     ensures { λ r. ⌜ Opens
         (heldIn (now (held .entry)) (now (own .entry)) (now (matrix .entry)) (now («right_hand» .entry)) (now (mean .entry)))
+        (observationsAt (now (ticks .entry)) (now (weights .entry)) (now (variances .entry)))
         (now (file .entry)) r
-        (heldIn (now (held .exit)) (now (own .exit)) (now (matrix .exit)) (now («right_hand» .exit)) (now (mean .exit))) ⌝ }
+        (heldIn (now (held .exit)) (now (own .exit)) (now (matrix .exit)) (now («right_hand» .exit)) (now (mean .exit)))
+        (observationsAt (now (ticks .exit)) (now (weights .exit)) (now (variances .exit))) ⌝ }
 {
     if is_open(
         held[0] as usize,
@@ -43,8 +52,10 @@ pub fn open_lent<'a>(
     if let Check::Refuses(number, place) = checked {
         return OpenAnswer::Refused(number, place);
     }
-    figures_in(own, matrix, right_hand, mean, file);
     let last = last_year(file);
+    observe(ticks, weights, variances, file);
+    figures_in(own, matrix, right_hand, ticks, weights, last);
+    start_mean(mean, ticks, last);
     let numbers = [last as u64, closeness_of(file), 0];
     *held = numbers;
     OpenAnswer::Opened

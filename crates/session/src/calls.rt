@@ -22,10 +22,11 @@ use crate::lent::read_lent;
 use crate::lent::sweep_lent;
 use crate::state::empty;
 use chain::arrays::Figures;
+use observations::Observations;
 
 // 22, then 1 to 10.
 pub fn open(s: Session, file: &[u8]) -> Opening
-    ensures { λ r. ⌜ Opens (heldBy s) (now (file .entry)) (r .answer) (heldBy (r .session)) ⌝ }
+    ensures { λ r. ⌜ Opens (heldBy s) (s .observations) (now (file .entry)) (r .answer) (heldBy (r .session)) (r .session .observations) ⌝ }
 {
     let figures = s.figures;
     let mut held = [figures.last as u64, figures.closeness, s.total];
@@ -33,14 +34,26 @@ pub fn open(s: Session, file: &[u8]) -> Opening
     let mut matrix = figures.matrix;
     let mut right_hand = figures.right_hand;
     let mut mean = s.mean;
+    let observations = s.observations;
+    let mut ticks = observations.ticks;
+    let mut weights = observations.weights;
+    let mut variances = observations.variances;
     let answer = open_lent(
         &mut held,
         &mut own,
         &mut matrix,
         &mut right_hand,
         &mut mean,
+        &mut ticks,
+        &mut weights,
+        &mut variances,
         file,
     );
+    let observed = Observations {
+        ticks: ticks,
+        weights: weights,
+        variances: variances,
+    };
     let opened = Figures {
         last: held[0] as usize,
         closeness: held[1],
@@ -49,6 +62,7 @@ pub fn open(s: Session, file: &[u8]) -> Opening
         right_hand: right_hand,
     };
     let session = Session {
+        observations: observed,
         figures: opened,
         mean: mean,
         total: held[2],
@@ -78,7 +92,9 @@ pub fn judge(s: Session, lent: &[u8]) -> JudgeAnswer
 // 21, 12, settled, 23.
 pub fn sweep(s: Session, n: u64) -> Sweeping
     ensures { λ r. ⌜ Sweeps (heldBy s) n (r .answer) (heldBy (r .session)) ⌝ }
+    ensures { λ r. ⌜ r .session .observations ≡ s .observations ⌝ }
 {
+    let observations = s.observations;
     let figures = s.figures;
     let mut mean = s.mean;
     let mut total = s.total;
@@ -93,6 +109,7 @@ pub fn sweep(s: Session, n: u64) -> Sweeping
         n,
     );
     let session = Session {
+        observations: observations,
         figures: figures,
         mean: mean,
         total: total,

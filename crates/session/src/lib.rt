@@ -3,14 +3,16 @@
 // equation with the specification's machine, refused calls included; that of `figures`, which the machine does not have, is with its state.
 // Each call stands in a crate of its own, with its contract; here they are gathered.
 use chain::arrays::Figures;
+use observations::Observations;
 
 pub mod answers;
 pub mod calls;
 pub mod lent;
 pub mod state;
 
-// Nothing (J = 0), or the figures of an accepted file, the mean and the sweeps run since open.
+// Nothing (J = 0), or the observations of an accepted file, the figures that are made of them, the mean and the sweeps run since open.
 pub struct Session {
+    observations: Observations,
     figures: Figures,
     mean: [i64; 31],
     total: u64,

@@ -5,6 +5,7 @@ ghost use Rattle.holding.specs.State.{stateOf};
 ghost use Rattle.session.specs.Value.{heldBy};
 use crate::Session;
 use chain::arrays::Figures;
+use observations::Observations;
 
 // Nothing is open.
 pub fn empty() -> Session
@@ -17,7 +18,13 @@ pub fn empty() -> Session
         matrix: [0; 961],
         right_hand: [0; 31],
     };
+    let observations = Observations {
+        ticks: [0; 303],
+        weights: [0; 77],
+        variances: [0; 31],
+    };
     Session {
+        observations: observations,
         figures: figures,
         mean: [0; 31],
         total: 0,

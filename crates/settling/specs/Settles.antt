@@ -6,11 +6,15 @@ use borrow.Author.Tests.{le-ltb}
 use lib.IntN.{ℤ}
 use lib.ListN.{length, drop}
 use Rattle.definitions.specs.Layout.{Bytes, lastYear}
-use Rattle.definitions.specs.Matrix.{figuresOf}
+use Rattle.definitions.specs.Matrix.{figuresFrom, figuresOf}
 use Rattle.definitions.specs.Programs.{Show, programText, refusalLine, spentLine}
-use Rattle.definitions.specs.Machine.{opened, refused, writeCall}
+use Rattle.definitions.specs.Machine.{opened, refused, open-file, State, empty, holds, mapState, openCall, sweepCall, writeCall, outcome, theFile}
+use Rattle.definitions.specs.Kept.{keptOf, inSession}
+use Rattle.laws.specs.MachineLaws.{mapOutcome, sweep-alike, outcome-alike, session-alike}
 use Rattle.laws.specs.Printed.{MeanSettled, Ends, opening, sweeping, swept-ends}
-use Rattle.holding.specs.State.{Held, stateOf}
+use Rattle.observations.specs.declared.Observations.{Observations}
+use Rattle.holding.specs.State.{Held, stateOf, sessionState}
+use Rattle.holding.specs.StateLaws.{held-of-session}
 use Rattle.sweeping.specs.declared.SweepAnswer.{SweepAnswer}
 use Rattle.sweeping.specs.declared.SweepAnswer.the-variants.{Settled, Going, Refused}
 use Rattle.sweeping.specs.Sweeps.{ofSweep}
@@ -21,7 +25,26 @@ use Rattle.writing.specs.WriteLaws.{refused-written}
 use Rattle.session.specs.declared.answers.Sweeping.{Sweeping}
 use Rattle.session.specs.Value.{heldBy}
 
--- by its answer: what is printed, whatever would be shown of a mean; or that the session holds the mean that is shown
+-- ---- a session answers as the specification's machine does, on the file in the place of what is kept of it
+
+module _ (given : Bytes) where
+  pub opens-as-file : openCall inSession empty given ≡ mapOutcome keptOf (opening given)
+  unfolding outcome
+  opens-as-file = outcome-alike theFile inSession keptOf session-alike empty (open-file given)
+
+  pub swept-as-file : sweepCall (λ F. F) (mapState figuresOf (opening given .state)) 4096 ≡ mapOutcome figuresOf (sweeping given)
+  swept-as-file = sweep-alike figuresOf figuresOf (λ F. F) (λ f. refl) (opening given .state) 4096
+
+-- what is held are the figures of what is kept
+pub held-figures : (o : Observations) (s : Held) (st : State Bytes) → sessionState o s ≡ mapState keptOf st
+    → stateOf s ≡ mapState figuresOf st
+held-figures o s st e = sym (held-of-session o s) ∙ ap (mapState (λ x. x .figures)) e ∙ of-file st
+  where
+    of-file : (st : State Bytes) → mapState (λ x. x .figures) (mapState keptOf st) ≡ mapState figuresOf st
+    of-file empty = refl
+    of-file (holds f μ total) = refl
+
+-- ---- by its answer: what is printed, whatever would be shown of a mean; or that the session holds the mean that is shown
 pub record Settles (given : Bytes) (r : Sweeping) : Type 0 where
   pub refused : (number place : ℕ) → r .answer ≡ Refused number place
       → (show : Show) → programText show given ≡ refusalLine number place
@@ -36,7 +59,8 @@ module _ (given : Bytes) (r : Sweeping) where
       told same = subst (λ a. Ends given (stateOf (heldBy (r .session))) (ofSweep a)) same e
 
   pub settles-swept : length given < 2807 → opened ≡ opening given .answer
-      → ofSweep (r .answer) ≡ sweeping given .answer → stateOf (heldBy (r .session)) ≡ sweeping given .state → Settles given r
+      → ofSweep (r .answer) ≡ sweeping given .answer → stateOf (heldBy (r .session)) ≡ mapState figuresOf (sweeping given .state)
+      → Settles given r
   settles-swept short taken answer state = settles-by (rw (answer, state) (swept-ends given short taken))
 
 -- ---- what is written of a mean that settled
@@ -51,7 +75,7 @@ pub record WritesWhole (size : ℕ → ℕ) (text : Text) (given : Bytes) (μ : 
 pub writes-whole : {size : ℕ → ℕ} {text : Text} {given : Bytes} {s : Held} {total : ℕ} {before after : Bytes} {r : WriteAnswer}
     → (m : MeanSettled given (stateOf s) total) → Writes size text s before r after → size (lastYear given) ≤ length before
     → WritesWhole size text given (m .mean) before r after
-unfolding writeCall figuresOf
+unfolding writeCall figuresFrom
 writes-whole m w room = let enough = le-ltb _ _ room in record {
   taken = λ number place told. refused-written (sym (ap ofWrite told) ∙ w .answer ∙ rw (m .state, m .passing, enough) refl);
   buffer = w .buffer ∙ rw (m .state, m .passing, enough) refl;

@@ -38,7 +38,7 @@ module _ (f : Bytes) (few : lastYear f ≤ yearLimit) where
   n = parts (lastYear f)
 
   of-file : FiguresOf f (inArrays (D.figuresOf f))
-  unfolding D.figuresOf
+  unfolding D.figuresFrom
   of-file = record {
     last = refl;
     close = refl;

@@ -57,14 +57,14 @@ module _ (F : D.Figures) (μ ν : List ℤ) (total n after : ℕ) where
   IsHeld st = st ≡ holds F ν after
 
   abbrev kept : Answer → Outcome D.Figures
-  kept = answers D.Figures D.figuresOf (λ G. G) (holds F μ total)
+  kept = answers (holds F μ total)
 
   -- sweep's three tests
   abbrev swept : Bool → Bool → Bool → Outcome D.Figures
   swept b c d =
       cond b (kept (refused 12 0))
       (cond c (kept (settled total))
-      (cond d (kept (refused 23 0)) (sweptTo D.Figures D.figuresOf (λ G. G) F end)))
+      (cond d (kept (refused 23 0)) (sweptTo (λ G. G) F end)))
 
   settled-passes : sweepsTo (holds F μ total) n .answer ≡ settled after → sweepsTo (holds F μ total) n .state ≡ holds F ν after
       → passes F (part ν) ≡ true

@@ -6,8 +6,9 @@ use mathlib.Core.Bool.{true}
 use mathlib.Core.List.{List}
 use lib.IntN.{ℤ}
 use Rattle.definitions.specs.Words.{within, part}
-use Rattle.definitions.specs.Layout.{Bytes}
-use Rattle.definitions.specs.Matrix.{Figures, figuresOf}
+use Rattle.definitions.specs.Layout.{Bytes, closeness}
+use Rattle.definitions.specs.Observations.{chainOf}
+use Rattle.definitions.specs.Matrix.{Figures}
 use Rattle.definitions.specs.Sweep.{sweepLimit}
 use Rattle.definitions.specs.Machine as M
 use Rattle.definitions.specs.Machine.{Answer, State, Outcome, sweepCall}
@@ -22,9 +23,9 @@ ofSweep (Settled total) = M.settled total
 ofSweep (Going total) = M.going total
 ofSweep (Refused number place) = M.refused number place
 
--- the machine on figures
+-- the machine on figures, which are all that it uses of what is kept
 abbrev pub sweepsTo : State Figures → ℕ → Outcome Figures
-sweepsTo = sweepCall Figures figuresOf (λ F. F)
+sweepsTo = sweepCall (λ F. F)
 
 -- of what is held before, and of what is held after
 pub record Sweeps (s : Held) (n : ℕ) (r : SweepAnswer) (t : Held) : Type 0 where
@@ -33,7 +34,7 @@ pub record Sweeps (s : Held) (n : ℕ) (r : SweepAnswer) (t : Held) : Type 0 whe
   pub same : (number place : ℕ) → r ≡ Refused number place → t ≡ s
   -- the mean that is held after it
   pub worth : (f : Bytes) (μ ν : List ℤ) (total after : ℕ) → HoldsFile s f μ total → HoldsFile t f ν after
-      → r ≡ Settled after → Guarantee f (part ν)
+      → r ≡ Settled after → Guarantee (chainOf f) (closeness f) (part ν)
   -- a number that is not refused, and a rounded mean that is held after it
   pub rounded : (f : Bytes) (μ ν : List ℤ) (total after : ℕ) → HoldsFile s f μ total → HoldsFile t f ν after
-      → within 1 sweepLimit n ≡ true → Rounded f (part ν) → r ≡ Settled after
+      → within 1 sweepLimit n ≡ true → Rounded (chainOf f) (closeness f) (part ν) → r ≡ Settled after

@@ -29,7 +29,7 @@ refused-written e = let z : _≡_ {A = ℕ} 0 1 = cc in omega arith
 -- written only when the mean that is held passes
 module _ (size : ℕ → ℕ) (text : Text) (F : D.Figures) (μ : List ℤ) (total : ℕ) (b : Bytes) where
   abbrev answered : Answer → Bytes → Outcome D.Figures
-  answered = writes D.Figures D.figuresOf (λ G. G) (holds F μ total)
+  answered = writes (holds F μ total)
 
   -- the two tests
   abbrev tested : Bool → Bool → Outcome D.Figures

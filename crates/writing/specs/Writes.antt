@@ -4,9 +4,10 @@ use mathlib.Core.Path.{_≡_}
 use mathlib.Core.List.{List}
 use lib.IntN.{ℤ}
 use Rattle.definitions.specs.Words.{part}
-use Rattle.definitions.specs.Layout.{Bytes, recordLength}
+use Rattle.definitions.specs.Layout.{Bytes, closeness, recordLength}
 use Rattle.definitions.specs.Page.{pageLength}
-use Rattle.definitions.specs.Matrix.{Figures, figuresOf}
+use Rattle.definitions.specs.Observations.{chainOf}
+use Rattle.definitions.specs.Matrix.{Figures}
 use Rattle.definitions.specs.Machine as M
 use Rattle.definitions.specs.Machine.{Answer, State, Outcome, writeCall, recordIn, pageIn}
 use Rattle.definitions.specs.Guarantee.{Guarantee}
@@ -23,16 +24,16 @@ ofWrite (Refused number place) = M.refused number place
 abbrev pub Text : Type 0
 Text = Figures → List ℤ → Bytes
 
--- the machine on figures
+-- the machine on figures, which are all that it uses of what is kept
 abbrev pub writesTo : (ℕ → ℕ) → Text → State Figures → Bytes → Outcome Figures
-writesTo = writeCall Figures figuresOf (λ F. F)
+writesTo = writeCall (λ F. F)
 
 -- of the buffer before, and of the buffer after
 pub record Writes (size : ℕ → ℕ) (text : Text) (s : Held) (before : Bytes) (r : WriteAnswer) (after : Bytes) : Type 0 where
   pub answer : ofWrite r ≡ writesTo size text (stateOf s) before .answer
   pub buffer : after ≡ writesTo size text (stateOf s) before .buffer
   -- the mean that is written
-  pub worth : (f : Bytes) (μ : List ℤ) (total : ℕ) → HoldsFile s f μ total → r ≡ Written → Guarantee f (part μ)
+  pub worth : (f : Bytes) (μ : List ℤ) (total : ℕ) → HoldsFile s f μ total → r ≡ Written → Guarantee (chainOf f) (closeness f) (part μ)
 
 abbrev pub Reads : Held → Bytes → WriteAnswer → Bytes → Type 0
 Reads = Writes recordLength recordIn

@@ -7,7 +7,7 @@ use denote.Ref.{now}
 use lib.ListN.{length, replicate}
 use Rattle.definitions.specs.Layout.{Bytes, lastYear}
 use Rattle.definitions.specs.Refusals.{yearLimit}
-use Rattle.definitions.specs.Matrix.{figuresOf}
+use Rattle.definitions.specs.Matrix.{figuresFrom, figuresOf}
 use Rattle.definitions.specs.Page.{pageLength}
 use Rattle.definitions.specs.Machine.{pageIn}
 use Rattle.definitions.specs.Programs.{paged}
@@ -33,7 +33,7 @@ module _ (c : tie.After-page) where
   text = pageIn (figuresOf bytes) (start .pre .1 .mean)
 
   text-length : length text ≡ pageLength (lastYear bytes)
-  unfolding figuresOf
+  unfolding figuresFrom
   text-length = file-page-fits bytes (start .pre .1 .file) (start .pre .1 .mean) (start .pre .1 .inside) .bytes
 
   page-whole : WritesWhole pageLength pageIn bytes (start .pre .1 .mean) (replicate 4096 0) (c .page .result) (c .page .last .1 .0)

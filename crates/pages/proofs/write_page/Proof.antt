@@ -7,7 +7,7 @@ use native.Mathlib.Omega.{arith}
 use denote.Ref.{now}
 use lib.IntN.{ℤ}
 use lib.ListN.{length, drop, getD}
-use Rattle.chain.specs.Bits.{stored, read}
+use Rattle.integers.specs.Bits.{stored, read}
 use Rattle.definitions.specs.Words.{part}
 use Rattle.definitions.specs.Layout.{parts}
 use Rattle.definitions.specs.Matrix.{partOf}

@@ -6,13 +6,15 @@ use borrow.Author.Needs.{needs}
 use denote.Ref.{now}
 use lib.ListN.{length}
 use Rattle.definitions.specs.Layout.{Bytes}
-use Rattle.definitions.specs.Machine.{opened}
+use Rattle.definitions.specs.Matrix.{figuresOf}
+use Rattle.definitions.specs.Machine.{empty, mapState}
 use Rattle.laws.specs.Printed.{opening, long-text, refused-text}
-use Rattle.holding.specs.State.{stateOf}
+use Rattle.holding.specs.State.{stateOf, keptWith, sessionState}
 use Rattle.opening.specs.Opens.{ofOpen, opensTo}
 use Rattle.sweeping.specs.Sweeps.{sweepsTo}
+use Rattle.session.specs.declared.Session.{Session}
 use Rattle.session.specs.Value.{heldBy}
-use Rattle.settling.specs.Settles.{settles-by, settles-swept}
+use Rattle.settling.specs.Settles.{opens-as-file, swept-as-file, held-figures, settles-by, settles-swept}
 use Rattle.settling.proofs.settle.Statement.{statement}
 use Rattle.settling.proofs.settle.Tie as tie
 
@@ -24,11 +26,24 @@ module _ (c : tie.After-open) where
   short : length bytes < 2807
   short = omega (arith, c .before .if1 .left)
 
-  open-answer : ofOpen (c .«open» .result .answer) ≡ opening bytes .answer
-  open-answer = c .«open» .ensures .answer ∙ ap (λ st. opensTo st bytes .answer) (c .before .before .empty .ensures)
+  -- nothing is open before
+  abbrev before : Session
+  before = c .before .before .empty .result
 
-  open-state : stateOf (heldBy (c .«open» .result .session)) ≡ opening bytes .state
-  open-state = c .«open» .ensures .state ∙ ap (λ st. opensTo st bytes .state) (c .before .before .empty .ensures)
+  none : sessionState (before .observations) (heldBy before) ≡ empty
+  none = ap (mapState (keptWith (before .observations))) (c .before .before .empty .ensures)
+
+  open-answer : ofOpen (c .«open» .result .answer) ≡ opening bytes .answer
+  open-answer =
+      c .«open» .ensures .answer
+      ∙ ap (λ st. opensTo st bytes .answer) none
+      ∙ ap (λ x. x .answer) (opens-as-file bytes)
+
+  open-state : stateOf (heldBy (c .«open» .result .session)) ≡ mapState figuresOf (opening bytes .state)
+  open-state =
+      let after = c .«open» .result .session in
+      held-figures (after .observations) (heldBy after) (opening bytes .state)
+      (c .«open» .ensures .state ∙ ap (λ st. opensTo st bytes .state) none ∙ ap (λ x. x .state) (opens-as-file bytes))
 
 empty-requires : tie.Need-empty-requires
 empty-requires c κs = search needs
@@ -60,8 +75,8 @@ returns-3 c =
     let given = bytes at-open in
     settles-swept given (c .sweep .result) (short at-open)
     (sym (ap ofOpen (c .before .enum-told .given .1)) ∙ open-answer at-open)
-    (c .sweep .ensures .answer ∙ ap (λ st. sweepsTo st 4096 .answer) (open-state at-open))
-    (c .sweep .ensures .state ∙ ap (λ st. sweepsTo st 4096 .state) (open-state at-open))
+    (c .sweep .ensures .0 .answer ∙ ap (λ st. sweepsTo st 4096 .answer) (open-state at-open) ∙ ap (λ x. x .answer) (swept-as-file given))
+    (c .sweep .ensures .0 .state ∙ ap (λ st. sweepsTo st 4096 .state) (open-state at-open) ∙ ap (λ x. x .state) (swept-as-file given))
 
 pub settle-spec : {M : Type 1} → statement M
 settle-spec = tie.close (tie.spec

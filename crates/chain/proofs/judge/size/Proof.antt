@@ -10,7 +10,7 @@ use mir.Syntax.{w64}
 use mir.Val.{Fits, SFits}
 use mir.Facts.{toZ-ofZ}
 use Rattle.integers.specs.Size.{fits, kept}
-use Rattle.chain.specs.Bits.{stored, Negative, Nonnegative, negative, nonnegative, complement-negative}
+use Rattle.integers.specs.Bits.{stored, Negative, Nonnegative, negative, nonnegative, complement-negative}
 use Rattle.chain.proofs.judge.size.Statement.{statement}
 use Rattle.chain.proofs.judge.size.Tie as tie
 

@@ -7,7 +7,7 @@ use native.Mathlib.Omega.{arith}
 use lib.IntN.{natAbs}
 use Rattle.definitions.specs.Words.{part}
 use Rattle.definitions.specs.Layout.{parts}
-use Rattle.chain.specs.Bits.{same}
+use Rattle.integers.specs.Bits.{same}
 use Rattle.chain.specs.Judge.{testFrom, test-next, test-fails, test-ends}
 use Rattle.chain.proofs.judge.test.Statement.{statement}
 use Rattle.chain.proofs.judge.test.Tie as tie

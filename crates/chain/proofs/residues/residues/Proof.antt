@@ -17,7 +17,7 @@ use Rattle.definitions.specs.Words.{part}
 use Rattle.definitions.specs.Layout.{parts}
 use Rattle.laws.specs.Filled.{empty-at}
 use Rattle.chain.specs.Arrays.{meanOf, cell, cell-at, cell-mirrored, rowProduct}
-use Rattle.chain.specs.Bits.{stored, read}
+use Rattle.integers.specs.Bits.{stored, read}
 use Rattle.chain.specs.Decides.{decided-yes, decided-no, not-yes, not-no}
 use Rattle.chain.specs.Fitting.{Inside, rowLimit, residueLimit}
 use Rattle.chain.specs.Residues.{OfMean, RowFits, RowsFit}

@@ -17,7 +17,7 @@ use Rattle.integers.specs.Total.{sum-size, total-bound}
 use Rattle.definitions.specs.Words.{part}
 use Rattle.definitions.specs.Refusals.{partLimit}
 use Rattle.chain.specs.Arrays.{cell, cell-at, rowProduct}
-use Rattle.chain.specs.Bits.{stored, read, same}
+use Rattle.integers.specs.Bits.{stored, read, same}
 use Rattle.chain.specs.Decides.{Decides, decided-yes, decided-no, not-yes, not-no}
 use Rattle.chain.specs.Fitting.{entryLimit}
 use Rattle.chain.specs.Residues.{OfRow}

@@ -11,7 +11,7 @@ open-told-requires : tie.Need-open-told-requires
 open-told-requires c κs = search needs
 
 returns : tie.Need-returns
-returns c = opens-told _ _ _ _ (c .before .open-lent .ensures) (c .open-told .ensures)
+returns c = opens-told _ _ _ _ _ _ (c .before .open-lent .ensures) (c .open-told .ensures)
 
 pub desk-open-lent-spec : {M : Type 1} → statement M
 desk-open-lent-spec =

@@ -16,8 +16,8 @@ use Rattle.definitions.specs.Words.{part}
 use Rattle.definitions.specs.Layout.{parts}
 use Rattle.definitions.specs.Matrix.{partOf}
 use Rattle.laws.specs.Ranks.{rankOf, rank-below}
-use Rattle.chain.specs.Bits.{stored, read}
-use Rattle.figures.specs.Weights.{at}
+use Rattle.integers.specs.Bits.{stored, read}
+use Rattle.observations.specs.Arrays.{at}
 use Rattle.figures.specs.Entries.{shareOf, entryOf, Stretch}
 use Rattle.figures.specs.EntryLaws.{share-size, turned-small, phi-row, psi-row, entry-on, entry-off, stretch-as, stretch-put}
 use borrow.Author.Needs.{needs}

@@ -5,7 +5,7 @@ use mathlib.Core.Path.{ap, _∙_}
 use native.Mathlib.Omega.{arith}
 use denote.Ref.{now}
 use Rattle.definitions.specs.Words.{part}
-use Rattle.chain.specs.Bits.{read}
+use Rattle.integers.specs.Bits.{read}
 use Rattle.figures.specs.Entries.{Stretch, runOf}
 use Rattle.figures.specs.EntryLaws.{stretch-none, stretch-next, stretch-to}
 use Rattle.figures.proofs.matrix.fill_run.Statement.{statement}

@@ -11,7 +11,7 @@ use Rattle.integers.specs.Size.{fits, kept, natAbs-neg}
 use Rattle.integers.specs.Solver.{ring, _⊟_, ⊖_, num, _≐_}
 use Rattle.definitions.specs.Words.{part}
 use Rattle.laws.specs.Filled.{Filled, filled-none, filled-next}
-use Rattle.chain.specs.Bits.{read}
+use Rattle.integers.specs.Bits.{read}
 use Rattle.figures.proofs.matrix.turned_shares.Statement.{statement}
 use Rattle.figures.proofs.matrix.turned_shares.Tie as tie
 

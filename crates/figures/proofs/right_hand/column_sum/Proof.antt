@@ -3,7 +3,7 @@ use Prim.Native.Nat.{_-_, zero-le}
 use mathlib.Core.Path.{sym, ap, _∙_}
 use native.Mathlib.Omega.{arith}
 use denote.Ref.{now}
-use Rattle.chain.specs.Bits.{same}
+use Rattle.integers.specs.Bits.{same}
 use Rattle.figures.specs.Sums.{stepSum}
 use Rattle.figures.specs.SumLaws.{column-start, column-phi, column-psi}
 use borrow.Author.Needs.{needs}
@@ -18,7 +18,7 @@ returns c =
     let a = c .before .before .args in
     same (c .start-sum .result) (c .start-sum .ok)
     ∙ c .start-sum .ensures
-    ∙ sym (column-start (now (a .logs)) (a .last) (a .k) (c .before .if1 .taken))
+    ∙ sym (column-start (now (a .ticks)) (a .last) (a .k) (c .before .if1 .taken))
 
 sub-step-sum : tie.Need-sub-step-sum
 sub-step-sum c = search needs
@@ -35,7 +35,7 @@ returns-2 c =
     let a = c .before .before .before .args in
     same (c .step-sum .result) (c .step-sum .ok)
     ∙ c .step-sum .ensures
-    ∙ sym (column-phi (now (a .logs)) (a .last) (a .k) (c .before .before .if1 .left) (c .before .if2 .taken))
+    ∙ sym (column-phi (now (a .ticks)) (a .last) (a .k) (c .before .before .if1 .left) (c .before .if2 .taken))
 
 cells-of-requires : tie.Need-cells-of-requires
 cells-of-requires c κs = search needs
@@ -58,8 +58,8 @@ returns-3 c =
     let a = c .before .before .before .before .args in
     same (c .step-sum2 .result) (c .step-sum2 .ok)
     ∙ c .step-sum2 .ensures
-    ∙ ap (λ block. stepSum (now (a .logs)) (a .last) block (a .k - a .last - 1)) (c .before .cells-of .ensures)
-    ∙ sym (column-psi (now (a .logs)) (a .last) (a .k) (c .before .before .if2 .left))
+    ∙ ap (λ block. stepSum (now (a .ticks)) (a .last) block (a .k - a .last - 1)) (c .before .cells-of .ensures)
+    ∙ sym (column-psi (now (a .ticks)) (a .last) (a .k) (c .before .before .if2 .left))
 
 pub column-sum-spec : {M : Type 1} → statement M
 column-sum-spec = tie.close (tie.spec

@@ -4,7 +4,7 @@ use mathlib.Core.Path.{_∙_}
 use native.Mathlib.Omega.{arith}
 use lib.IntN.{pos}
 use Rattle.laws.specs.Filled.{Filled, filled-none, filled-next, filled-to}
-use Rattle.chain.specs.Bits.{same}
+use Rattle.integers.specs.Bits.{same}
 use Rattle.figures.specs.Sums.{columnSum}
 use Rattle.figures.proofs.right_hand.column_sums.Statement.{statement}
 use Rattle.figures.proofs.right_hand.column_sums.Tie as tie

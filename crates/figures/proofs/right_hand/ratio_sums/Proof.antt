@@ -13,22 +13,22 @@ use Rattle.integers.specs.Size.{natAbs-*-≤}
 use Rattle.definitions.specs.Words.{part}
 use Rattle.definitions.specs.Layout.{cells}
 use Rattle.laws.specs.Cells.{cells-few}
-use Rattle.chain.specs.Bits.{stored, read}
-use Rattle.figures.specs.Weights
+use Rattle.integers.specs.Bits.{stored, read}
+use Rattle.observations.specs.Arrays
 use Rattle.figures.specs.Weights.{Summed}
 use Rattle.figures.specs.WeightLaws.{summed-none, summed-next}
 use Rattle.figures.specs.Sums.{Logs, lastCell, ratioOf}
-use Rattle.figures.specs.SumLaws.{row-at, lastCell-below, difference-small, sum-small}
+use Rattle.figures.specs.SumLaws.{row-at, lastCell-below, ratioOf-small, sum-small}
 use Rattle.figures.proofs.right_hand.ratio_sums.Statement.{statement}
 use Rattle.figures.proofs.right_hand.ratio_sums.Tie as tie
 use mir.Facts.{toZ-pos}
 
 abbrev Inv-loop : tie.InvT-loop
-Inv-loop weights logs starts last years cells sums₀ total₀ d₀ sums total d =
-    (d ≤ years) × Summed d (λ y. pos (Weights.at weights y) *ℤ ratioOf logs last y) (toZ w64 total) sums
+Inv-loop weights ticks starts last years cells sums₀ total₀ d₀ sums total d =
+    (d ≤ years) × Summed d (λ y. pos (Arrays.ratioAt weights y) *ℤ ratioOf ticks last y) (toZ w64 total) sums
 
 abbrev μ-loop : tie.MeasureT-loop
-μ-loop weights logs starts last years cells sums₀ total₀ d₀ sums total d = years - d
+μ-loop weights ticks starts last years cells sums₀ total₀ d₀ sums total d = years - d
 
 cells-of-requires : tie.Need-cells-of-requires Inv-loop μ-loop
 cells-of-requires c κs = tt
@@ -51,16 +51,16 @@ module _ (c : tie.In-loop Inv-loop μ-loop) where
   J = s .args .last
 
   abbrev at : ℕ
-  at = Weights.at (now (s .args .starts)) (J - d) + d
+  at = Arrays.at (now (s .args .starts)) (J - d) + d
 
   abbrev cell : ℕ
   cell = c .before .before .cells-of .result
 
   abbrev weight : ℕ → ℕ
-  weight = Weights.at (now (s .args .weights))
+  weight = Arrays.ratioAt (now (s .args .weights))
 
   abbrev logs : List ℤ
-  logs = now (s .args .logs)
+  logs = now (s .args .ticks)
 
   abbrev small : Logs logs J
   small = s .pre .of-rows .logs-small
@@ -98,19 +98,14 @@ module _ (c : tie.In-loop Inv-loop μ-loop) where
       ap₂ _-ℤ_ (log-at (cell + at) (omega (arith, inside, cell-is))) (log-at at (omega (arith, inside)))
       ∙ ap₂ (λ m n. part logs (m + n) -ℤ part logs n) cell-is at-is
 
-  ratios-small : (y : ℕ) → y ≤ J → natAbs (ratioOf logs J y) ≤ 2 ^ 27
-  ratios-small y few =
-      let below = lastCell-below J y few in
-      difference-small logs J (cells J + lastCell J y) (lastCell J y) (small) (omega arith) (omega arith)
-
   ratio-small : natAbs (ratioOf logs J d) < 2 ^ 63
-  ratio-small = omega (arith, ratios-small d (omega (arith, more)))
+  ratio-small = omega (arith, ratioOf-small logs J d small (omega (arith, more)))
 
   product : toZ w64 (weight d) *ℤ stored readRatio ≡ term d
   product = ap₂ _*ℤ_ (toZ-pos w64 (omega (arith, weight-small))) (kept w64 ratio ratio-small)
 
   products-small : (y : ℕ) → y < J → natAbs (term y) ≤ 2 ^ 54
-  products-small y below = natAbs-*-≤ (pos (weight y)) (ratioOf logs J y) (s .pre .weights-small y below) (ratios-small y (omega arith))
+  products-small y below = natAbs-*-≤ (pos (weight y)) (ratioOf logs J y) (s .pre .weights-small y below) (ratioOf-small logs J y small (omega arith))
 
   product-small : natAbs (term d) < 2 ^ 63
   product-small = omega (arith, products-small d more)
@@ -131,6 +126,9 @@ element-copy-out-at c = omega (arith, small c .few)
 add-at : tie.Need-add-at Inv-loop μ-loop
 add-at c = let l = c .before in subst (Fits w64) (sym (at-is l)) (record { fits = omega (arith, in-array l, at-is l) })
 
+add-total : tie.Need-add-total Inv-loop μ-loop
+add-total c = omega (arith, more (c .before), small (c .before) .few)
+
 mul-total : tie.Need-mul-total Inv-loop μ-loop
 mul-total c = omega (arith, more (c .before), small (c .before) .few)
 
@@ -140,8 +138,8 @@ element-copy-out-total c = omega (arith, more (c .before), small (c .before) .fe
 cast-total : tie.Need-cast-total Inv-loop μ-loop
 cast-total c = fits refl (omega (arith, weight-small (c .before .before)))
 
-add-total : tie.Need-add-total Inv-loop μ-loop
-add-total c = omega (arith, in-array (c .before .before))
+add-total-2 : tie.Need-add-total-2 Inv-loop μ-loop
+add-total-2 c = omega (arith, in-array (c .before .before))
 
 mul-total-2 : tie.Need-mul-total-2 Inv-loop μ-loop
 mul-total-2 c = omega (arith, in-array (c .before .before))
@@ -161,8 +159,8 @@ sub-total c = let l = c .before .before .before .before in fits (ratio l) (ratio
 mul-total-4 : tie.Need-mul-total-4 Inv-loop μ-loop
 mul-total-4 c = let l = c .before .before .before .before in fits (product l) (product-small l)
 
-add-total-2 : tie.Need-add-total-2 Inv-loop μ-loop
-add-total-2 c = let l = c .before .before .before .before in fits (next l) (next-small l)
+add-total-3 : tie.Need-add-total-3 Inv-loop μ-loop
+add-total-3 c = let l = c .before .before .before .before in fits (next l) (next-small l)
 
 add-d : tie.Need-add-d Inv-loop μ-loop
 add-d c = omega arith
@@ -186,6 +184,6 @@ returns c = record { is = λ n few. c .before .loop .inv .1 .there n (omega arit
 
 pub ratio-sums-spec : {M : Type 1} → statement M
 ratio-sums-spec = tie.close (tie.spec
-    Inv-loop μ-loop cells-of-requires loop-holds sub-year mul-at element-copy-out-at add-at mul-total element-copy-out-total cast-total
-    add-total mul-total-2 element-copy-out-total-2 mul-total-3 element-copy-out-total-3 sub-total mul-total-4 add-total-2 add-d mul-sums
-    array-set-from-sums loop-less loop-again returns)
+    Inv-loop μ-loop cells-of-requires loop-holds sub-year mul-at element-copy-out-at add-at add-total mul-total element-copy-out-total
+    cast-total add-total-2 mul-total-2 element-copy-out-total-2 mul-total-3 element-copy-out-total-3 sub-total mul-total-4 add-total-3
+    add-d mul-sums array-set-from-sums loop-less loop-again returns)

@@ -12,8 +12,8 @@ use Rattle.integers.specs.Size.{fits, kept, natAbs-+, natAbs--, natAbs-*-≤}
 use Rattle.definitions.specs.Words.{part}
 use Rattle.definitions.specs.Matrix.{partOf}
 use Rattle.laws.specs.Ranks.{rankOf, rank-below}
-use Rattle.chain.specs.Bits.{stored, read}
-use Rattle.figures.specs.Weights.{at}
+use Rattle.integers.specs.Bits.{stored, read}
+use Rattle.observations.specs.Arrays.{at, meanAt, priorAt}
 use Rattle.figures.specs.SumLaws.{target-phi, target-psi}
 use borrow.Author.Needs.{needs}
 use Rattle.figures.proofs.right_hand.right_hand_at.Statement.{statement}
@@ -25,13 +25,13 @@ module _ (s : tie.Start) where
   k = s .args .k
 
   abbrev priorWeight : ℕ
-  priorWeight = at (now (s .args .priors)) k
+  priorWeight = priorAt (now (s .args .weights)) k
 
   abbrev mean : ℤ
-  mean = part (now (s .args .means)) k
+  mean = meanAt (now (s .args .ticks)) k
 
   abbrev weight : ℕ
-  weight = at (now (s .args .columns)) k
+  weight = at (now (s .args .weights)) k
 
   abbrev columnTotal : ℤ
   columnTotal = part (now (s .args .sums)) k
@@ -116,6 +116,30 @@ module _ (c : tie.After-rank-of) where
   subtracted-small : natAbs (own-sum begin -ℤ part ratios rank) < 2 ^ 63
   subtracted-small = omega (arith, own-small begin, ratio-small, natAbs-- (own-sum begin) (part ratios rank))
 
+add-prior : tie.Need-add-prior
+add-prior c = search needs
+
+mul-prior : tie.Need-mul-prior
+mul-prior c = search needs
+
+element-copy-out-prior : tie.Need-element-copy-out-prior
+element-copy-out-prior c = search needs
+
+cast-prior : tie.Need-cast-prior
+cast-prior c = fits refl (omega (arith, prior-small (c .before)))
+
+add-prior-2 : tie.Need-add-prior-2
+add-prior-2 c = search needs
+
+mul-prior-2 : tie.Need-mul-prior-2
+mul-prior-2 c = search needs
+
+element-copy-out-prior-2 : tie.Need-element-copy-out-prior-2
+element-copy-out-prior-2 c = search needs
+
+mul-prior-3 : tie.Need-mul-prior-3
+mul-prior-3 c = let s = c .before .before in fits (prior s) (omega (arith, prior-product s))
+
 mul-own : tie.Need-mul-own
 mul-own c = search needs
 
@@ -123,7 +147,7 @@ element-copy-out-own : tie.Need-element-copy-out-own
 element-copy-out-own c = search needs
 
 cast-own : tie.Need-cast-own
-cast-own c = fits refl (omega (arith, prior-small (c .before)))
+cast-own c = fits refl (omega (arith, column-small (c .before .before .before)))
 
 mul-own-2 : tie.Need-mul-own-2
 mul-own-2 c = search needs
@@ -132,25 +156,7 @@ element-copy-out-own-2 : tie.Need-element-copy-out-own-2
 element-copy-out-own-2 c = search needs
 
 mul-own-3 : tie.Need-mul-own-3
-mul-own-3 c = let s = c .before .before in fits (prior s) (omega (arith, prior-product s))
-
-mul-own-4 : tie.Need-mul-own-4
-mul-own-4 c = search needs
-
-element-copy-out-own-3 : tie.Need-element-copy-out-own-3
-element-copy-out-own-3 c = search needs
-
-cast-own-2 : tie.Need-cast-own-2
-cast-own-2 c = fits refl (omega (arith, column-small (c .before .before .before)))
-
-mul-own-5 : tie.Need-mul-own-5
-mul-own-5 c = search needs
-
-element-copy-out-own-4 : tie.Need-element-copy-out-own-4
-element-copy-out-own-4 c = search needs
-
-mul-own-6 : tie.Need-mul-own-6
-mul-own-6 c = let s = c .before .before .before .before in fits (column s) (omega (arith, column-product s))
+mul-own-3 c = let s = c .before .before .before .before in fits (column s) (omega (arith, column-product s))
 
 add-own : tie.Need-add-own
 add-own c = let s = c .before .before .before .before in fits (own s) (omega (arith, own-small s))
@@ -170,7 +176,7 @@ add-result c = fits (added (c .before .before)) (added-small (c .before .before)
 returns : tie.Need-returns
 returns c =
     let a = c .before .before in
-    kept w64 (added a) (added-small a) ∙ target-phi _ _ _ _ _ _ _ (c .if1 .taken)
+    kept w64 (added a) (added-small a) ∙ target-phi _ _ _ _ _ _ (c .if1 .taken)
 
 sub-result : tie.Need-sub-result
 sub-result c = fits (subtracted (c .before .before)) (subtracted-small (c .before .before))
@@ -178,10 +184,10 @@ sub-result c = fits (subtracted (c .before .before)) (subtracted-small (c .befor
 returns-2 : tie.Need-returns-2
 returns-2 c =
     let a = c .before .before in
-    kept w64 (subtracted a) (subtracted-small a) ∙ target-psi _ _ _ _ _ _ _ (c .if1 .left)
+    kept w64 (subtracted a) (subtracted-small a) ∙ target-psi _ _ _ _ _ _ (c .if1 .left)
 
 pub right-hand-at-spec : {M : Type 1} → statement M
 right-hand-at-spec = tie.close (tie.spec
-    mul-own element-copy-out-own cast-own mul-own-2 element-copy-out-own-2 mul-own-3 mul-own-4 element-copy-out-own-3 cast-own-2
-    mul-own-5 element-copy-out-own-4 mul-own-6 add-own rank-of-requires mul-shared element-copy-out-shared add-result returns sub-result
-    returns-2)
+    add-prior mul-prior element-copy-out-prior cast-prior add-prior-2 mul-prior-2 element-copy-out-prior-2 mul-prior-3 mul-own
+    element-copy-out-own cast-own mul-own-2 element-copy-out-own-2 mul-own-3 add-own rank-of-requires mul-shared element-copy-out-shared
+    add-result returns sub-result returns-2)

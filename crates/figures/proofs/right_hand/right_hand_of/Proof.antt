@@ -4,17 +4,17 @@ use mathlib.Core.Path.{_∙_}
 use native.Mathlib.Omega.{arith}
 use lib.IntN.{pos}
 use Rattle.laws.specs.Filled.{Filled, filled-none, filled-next, filled-to}
-use Rattle.chain.specs.Bits.{same}
+use Rattle.integers.specs.Bits.{same}
 use Rattle.figures.specs.Sums.{targetFrom}
 use Rattle.figures.proofs.right_hand.right_hand_of.Statement.{statement}
 use Rattle.figures.proofs.right_hand.right_hand_of.Tie as tie
 
 abbrev Inv-loop : tie.InvT-loop
-Inv-loop priors means columns sums ratios last count targets₀ k₀ targets k =
-    (k ≤ count) × Filled 31 k (pos 0) (targetFrom priors means columns sums ratios last) targets
+Inv-loop weights ticks sums ratios last count targets₀ k₀ targets k =
+    (k ≤ count) × Filled 31 k (pos 0) (targetFrom weights ticks sums ratios last) targets
 
 abbrev μ-loop : tie.MeasureT-loop
-μ-loop priors means columns sums ratios last count targets₀ k₀ targets k = count - k
+μ-loop weights ticks sums ratios last count targets₀ k₀ targets k = count - k
 
 mul-count : tie.Need-mul-count Inv-loop μ-loop
 mul-count c = omega arith

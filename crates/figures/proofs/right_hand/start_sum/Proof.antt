@@ -12,8 +12,8 @@ use Rattle.integers.specs.Sum.{sum, sum-zero, sum-next}
 use Rattle.definitions.specs.Words.{part}
 use Rattle.definitions.specs.Layout.{cells, rowStart}
 use Rattle.laws.specs.Cells.{cell-below, cells-few}
-use Rattle.chain.specs.Bits.{stored, read}
-use Rattle.figures.specs.Weights
+use Rattle.integers.specs.Bits.{stored, read}
+use Rattle.observations.specs.Arrays
 use Rattle.figures.specs.Sums.{Logs, startSum}
 use Rattle.figures.specs.SumLaws.{row-at, sum-small}
 use Rattle.figures.proofs.right_hand.start_sum.Statement.{statement}
@@ -43,10 +43,10 @@ module _ (c : tie.In-loop Inv-loop μ-loop) where
   J = s .args .last
 
   abbrev at : ℕ
-  at = Weights.at (now (s .args .starts)) i
+  at = Arrays.at (now (s .args .starts)) i
 
   abbrev logs : List ℤ
-  logs = now (s .args .logs)
+  logs = now (s .args .ticks)
 
   abbrev small : Logs logs J
   small = s .pre .logs-small
@@ -110,7 +110,7 @@ returns c =
     let l = c .before .loop in
     let a = c .before .before .args in
     let all : l .i ≡ a .last + 1 = omega arith in
-    l .inv .1 ∙ ap (λ m. sum m (λ y. part (now (a .logs)) (rowStart (a .last) y))) all
+    l .inv .1 ∙ ap (λ m. sum m (λ y. part (now (a .ticks)) (rowStart (a .last) y))) all
 
 pub start-sum-spec : {M : Type 1} → statement M
 start-sum-spec = tie.close (tie.spec

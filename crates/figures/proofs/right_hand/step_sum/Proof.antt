@@ -12,8 +12,8 @@ use Rattle.integers.specs.Sum.{sum, sum-zero, sum-next}
 use Rattle.definitions.specs.Words.{part}
 use Rattle.definitions.specs.Layout.{cells, rowStart}
 use Rattle.laws.specs.Cells.{cells-few}
-use Rattle.chain.specs.Bits.{stored, read}
-use Rattle.figures.specs.Weights
+use Rattle.integers.specs.Bits.{stored, read}
+use Rattle.observations.specs.Arrays
 use Rattle.figures.specs.Sums.{Logs, stepOf, stepSum}
 use Rattle.figures.specs.SumLaws.{row-at, step-inside, step-small, sum-small}
 use Rattle.figures.proofs.right_hand.step_sum.Statement.{statement}
@@ -43,10 +43,10 @@ module _ (c : tie.In-loop Inv-loop μ-loop) where
   J = s .args .last
 
   abbrev at : ℕ
-  at = s .args .block + (Weights.at (now (s .args .starts)) i + s .args .column)
+  at = s .args .block + (Arrays.at (now (s .args .starts)) i + s .args .column)
 
   abbrev logs : List ℤ
-  logs = now (s .args .logs)
+  logs = now (s .args .ticks)
 
   abbrev small : Logs logs J
   small = s .pre .of-rows .logs-small
@@ -57,7 +57,7 @@ module _ (c : tie.In-loop Inv-loop μ-loop) where
   more : i < J - s .args .column
   more = c .loop-test .taken
 
-  cell-is : Weights.at (now (s .args .starts)) i + s .args .column ≡ rowStart J i + s .args .column
+  cell-is : Arrays.at (now (s .args .starts)) i + s .args .column ≡ rowStart J i + s .args .column
   cell-is = ap (λ n. n + s .args .column) (row-at (s .pre .of-rows) i (omega (arith, more)))
 
   at-is : at ≡ s .args .block + (rowStart J i + s .args .column)
@@ -139,7 +139,7 @@ returns c =
     let l = c .before .loop in
     let a = c .before .before .args in
     let all : l .i ≡ a .last - a .column = omega arith in
-    l .inv .1 ∙ ap (λ m. sum m (stepOf (now (a .logs)) (a .last) (a .block) (a .column))) all
+    l .inv .1 ∙ ap (λ m. sum m (stepOf (now (a .ticks)) (a .last) (a .block) (a .column))) all
 
 pub step-sum-spec : {M : Type 1} → statement M
 step-sum-spec = tie.close (tie.spec

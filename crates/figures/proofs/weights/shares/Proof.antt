@@ -10,13 +10,14 @@ use Rattle.integers.specs.Total.{total-bound, sum-size}
 use denote.Ref.{now}
 use mir.Syntax.{w64}
 use mir.Val.{toZ}
-use Rattle.figures.specs.Weights.{at, Summed}
+use Rattle.observations.specs.Arrays.{ratioAt}
+use Rattle.figures.specs.Weights.{Summed}
 use Rattle.figures.specs.WeightLaws.{summed-none, summed-next}
 use Rattle.figures.proofs.weights.shares.Statement.{statement}
 use Rattle.figures.proofs.weights.shares.Tie as tie
 
 abbrev Inv-loop : tie.InvT-loop
-Inv-loop weights last years sums₀ total₀ n₀ sums total n = (n ≤ years) × Summed n (λ i. pos (at weights i)) (toZ w64 total) sums
+Inv-loop weights last years sums₀ total₀ n₀ sums total n = (n ≤ years) × Summed n (λ i. pos (ratioAt weights i)) (toZ w64 total) sums
 
 abbrev μ-loop : tie.MeasureT-loop
 μ-loop weights last years sums₀ total₀ n₀ sums total n = years - n
@@ -24,39 +25,42 @@ abbrev μ-loop : tie.MeasureT-loop
 loop-holds : tie.Need-loop-holds Inv-loop μ-loop
 loop-holds c = (omega arith, summed-none _)
 
+add-total : tie.Need-add-total Inv-loop μ-loop
+add-total c = omega arith
+
 mul-total : tie.Need-mul-total Inv-loop μ-loop
 mul-total c = omega arith
 
 element-copy-out-total : tie.Need-element-copy-out-total Inv-loop μ-loop
 element-copy-out-total c = omega arith
 
-small : (c : tie.After-total Inv-loop μ-loop) → at (now (c .before .before .before .args .weights)) (c .before .before .loop .n) ≤ 2 ^ 28
+small : (c : tie.After-total Inv-loop μ-loop) → ratioAt (now (c .before .before .before .args .weights)) (c .before .before .loop .n) ≤ 2 ^ 28
 small c = c .before .before .before .pre .small (c .before .before .loop .n) (c .before .loop-test .taken)
 
 -- the sum with the next weight
 next : (c : tie.After-total Inv-loop μ-loop)
     → let l = c .before .before .loop in let g = now (c .before .before .before .args .weights) in
-    toZ w64 (l .total) +ℤ toZ w64 (at g (l .n)) ≡ sum (l .n + 1) (λ i. pos (at g i))
+    toZ w64 (l .total) +ℤ toZ w64 (ratioAt g (l .n)) ≡ sum (l .n + 1) (λ i. pos (ratioAt g i))
 next c =
     let l = c .before .before .loop in
     let g = now (c .before .before .before .args .weights) in
-    ap₂ _+ℤ_ (l .inv .1 .at-hand) (toZ-pos w64 (omega (arith, small c))) ∙ sym (sum-next (l .n) (λ i. pos (at g i)))
+    ap₂ _+ℤ_ (l .inv .1 .at-hand) (toZ-pos w64 (omega (arith, small c))) ∙ sym (sum-next (l .n) (λ i. pos (ratioAt g i)))
 
 next-small : (c : tie.After-total Inv-loop μ-loop)
-    → let l = c .before .before .loop in natAbs (sum (l .n + 1) (λ i. pos (at (now (c .before .before .before .args .weights)) i))) < 2 ^ 63
+    → let l = c .before .before .loop in natAbs (sum (l .n + 1) (λ i. pos (ratioAt (now (c .before .before .before .args .weights)) i))) < 2 ^ 63
 next-small c =
     let l = c .before .before .loop in
     let s = c .before .before .before in
     let g = now (s .args .weights) in
     let more = c .before .loop-test .taken in
-    let bounded = total-bound (l .n + 1) (2 ^ 28) {f = λ i. natAbs (pos (at g i))} (λ i below. s .pre .small i (omega arith)) in
-    omega (arith, s .pre .few, sum-size (l .n + 1) (λ i. pos (at g i)))
+    let bounded = total-bound (l .n + 1) (2 ^ 28) {f = λ i. natAbs (pos (ratioAt g i))} (λ i below. s .pre .small i (omega arith)) in
+    omega (arith, s .pre .few, sum-size (l .n + 1) (λ i. pos (ratioAt g i)))
 
 cast-total : tie.Need-cast-total Inv-loop μ-loop
 cast-total c = fits refl (omega (arith, small c))
 
-add-total : tie.Need-add-total Inv-loop μ-loop
-add-total c = fits (next c) (next-small c)
+add-total-2 : tie.Need-add-total-2 Inv-loop μ-loop
+add-total-2 c = fits (next c) (next-small c)
 
 add-n : tie.Need-add-n Inv-loop μ-loop
 add-n c = omega arith
@@ -80,5 +84,5 @@ returns c = record { is = λ n few. c .before .loop .inv .1 .there n (omega arit
 
 pub shares-spec : {M : Type 1} → statement M
 shares-spec = tie.close (tie.spec
-    Inv-loop μ-loop loop-holds mul-total element-copy-out-total cast-total add-total add-n mul-sums array-set-from-sums loop-less
-    loop-again returns)
+    Inv-loop μ-loop loop-holds add-total mul-total element-copy-out-total cast-total add-total-2 add-n mul-sums array-set-from-sums
+    loop-less loop-again returns)

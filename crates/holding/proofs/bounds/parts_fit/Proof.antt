@@ -10,7 +10,7 @@ use lib.ListN.{getD}
 use denote.Ref.{now}
 use Rattle.definitions.specs.Words.{part}
 use Rattle.chain.specs.Arrays.{cell, cell-at}
-use Rattle.chain.specs.Bits.{same}
+use Rattle.integers.specs.Bits.{same}
 use Rattle.chain.specs.Decides.{Decides, decided-yes, decided-no, not-yes, not-no}
 use Rattle.chain.specs.Turned.{here-or-before}
 use Rattle.holding.specs.Bounds.{PartFits, PartsFit}

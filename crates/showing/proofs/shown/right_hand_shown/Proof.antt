@@ -4,7 +4,7 @@ use native.Mathlib.Omega.{arith}
 use lib.IntN.{pos}
 use Rattle.definitions.specs.Words.{part}
 use Rattle.laws.specs.Filled.{Filled, filled-none, filled-next, filled-to}
-use Rattle.chain.specs.Bits.{same}
+use Rattle.integers.specs.Bits.{same}
 use Rattle.showing.specs.Shown.{filled-is}
 use Rattle.showing.proofs.shown.right_hand_shown.Statement.{statement}
 use Rattle.showing.proofs.shown.right_hand_shown.Tie as tie

@@ -11,7 +11,7 @@ use mir.Val.{SFits, ofZ}
 use mir.Facts.{toZ-ofZ}
 use Rattle.integers.specs.Floor.{floorDiv}
 use Rattle.integers.specs.Size.{fits, kept}
-use Rattle.chain.specs.Bits.{stored, Negative, Nonnegative, negative, nonnegative, complement-negative, complement-nonnegative}
+use Rattle.integers.specs.Bits.{stored, Negative, Nonnegative, negative, nonnegative, complement-negative, complement-nonnegative}
 use Rattle.steps.proofs.step.floor.Statement.{statement}
 use Rattle.steps.proofs.step.floor.Tie as tie
 

@@ -19,7 +19,7 @@ use Rattle.integers.specs.SumRange.{only}
 use Rattle.definitions.specs.Words.{part}
 use Rattle.definitions.specs.Layout.{parts}
 use Rattle.chain.specs.Arrays.{cell, cell-at, cell-mirrored}
-use Rattle.chain.specs.Bits.{stored, read, same}
+use Rattle.integers.specs.Bits.{stored, read, same}
 use Rattle.chain.specs.Turned.{Turned, turned-none, turned-next}
 use Rattle.steps.specs.Step.{Follows, Followed}
 use Rattle.steps.proofs.step.follow.Statement.{statement}

@@ -18,7 +18,7 @@ use Rattle.definitions.specs.Words.{part}
 use Rattle.definitions.specs.Layout.{parts}
 use Rattle.definitions.specs.Sweep.{bringBack}
 use Rattle.chain.specs.Arrays.{cell, cell-at}
-use Rattle.chain.specs.Bits.{stored, read}
+use Rattle.integers.specs.Bits.{stored, read}
 use Rattle.steps.specs.declared.Working.{Working}
 use Rattle.steps.specs.Held.{moved, stepped, dividend}
 use Rattle.steps.specs.Step.{Steps}

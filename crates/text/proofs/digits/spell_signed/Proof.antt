@@ -6,7 +6,7 @@ use borrow.Author.Needs.{needs}
 use lib.IntN.{natAbs}
 use lib.ListN.{set}
 use mir.Facts.{toZ-ofZ}
-use Rattle.chain.specs.Bits.{Negative, negative, nonnegative}
+use Rattle.integers.specs.Bits.{Negative, negative, nonnegative}
 use Rattle.definitions.specs.Text.{minus, decimal, signedDecimal}
 use Rattle.text.specs.Digits.{Spelt, signed-spelt, room-for-sign, spelt-length}
 use Rattle.text.specs.declared.digits.Digits.{Digits}
