@@ -28,16 +28,14 @@ use observations::Observations;
 pub fn open(s: Session, file: &[u8]) -> Opening
     ensures { λ r. ⌜ Opens (heldBy s) (s .observations) (now (file .entry)) (r .answer) (heldBy (r .session)) (r .session .observations) ⌝ }
 {
-    let figures = s.figures;
-    let mut held = [figures.last as u64, figures.closeness, s.total];
-    let mut own = figures.own;
-    let mut matrix = figures.matrix;
-    let mut right_hand = figures.right_hand;
+    let mut held = [s.figures.last as u64, s.figures.closeness, s.total];
+    let mut own = s.figures.own;
+    let mut matrix = s.figures.matrix;
+    let mut right_hand = s.figures.right_hand;
     let mut mean = s.mean;
-    let observations = s.observations;
-    let mut ticks = observations.ticks;
-    let mut weights = observations.weights;
-    let mut variances = observations.variances;
+    let mut ticks = s.observations.ticks;
+    let mut weights = s.observations.weights;
+    let mut variances = s.observations.variances;
     let answer = open_lent(
         &mut held,
         &mut own,
@@ -49,27 +47,24 @@ pub fn open(s: Session, file: &[u8]) -> Opening
         &mut variances,
         file,
     );
-    let observed = Observations {
-        ticks: ticks,
-        weights: weights,
-        variances: variances,
-    };
-    let opened = Figures {
-        last: held[0] as usize,
-        closeness: held[1],
-        own: own,
-        matrix: matrix,
-        right_hand: right_hand,
-    };
-    let session = Session {
-        observations: observed,
-        figures: opened,
-        mean: mean,
-        total: held[2],
-    };
     Opening {
         answer: answer,
-        session: session,
+        session: Session {
+            observations: Observations {
+                ticks: ticks,
+                weights: weights,
+                variances: variances,
+            },
+            figures: Figures {
+                last: held[0] as usize,
+                closeness: held[1],
+                own: own,
+                matrix: matrix,
+                right_hand: right_hand,
+            },
+            mean: mean,
+            total: held[2],
+        },
     }
 }
 
