@@ -198,7 +198,7 @@ class Limits(unittest.TestCase):
 
     def test_of_the_header(self) -> None:
         macros = dict(re.findall(r"^#define (DESK_\w+) (.+?)(?:\s+/\*.*)?$", HEADER, re.MULTILINE))
-        self.assertEqual(macros.pop("DESK_EMPTY"), "{" + ", ".join(["{0}"] * 5) + "}")
+        self.assertEqual(macros.pop("DESK_EMPTY"), "{" + ", ".join(["{0}"] * 8) + "}")
         self.assertEqual(macros.pop("DESK_EMPTY_SESSION"), "((desk_session)DESK_EMPTY)")
         version = ".".join(macros.pop(f"DESK_VERSION_{part}") for part in ("MAJOR", "MINOR", "PATCH"))
         self.assertEqual(macros.pop("DESK_VERSION"), f'"{version}"')
