@@ -15,7 +15,8 @@ use Rattle.definitions.specs.Matrix.{Part, Φ, Ψ, partOf, ownOf, own, matrix, 
 use Rattle.laws.specs.Columns.{own-of-phi, own-of-psi, firsts-of-phi, firsts-of-psi}
 use Rattle.laws.specs.Ranks.{rankOf, signOf, partOf-phi, partOf-psi, by-part, rank-below, matrix-by-ranks}
 use Rattle.laws.specs.PrecisionMatrix.{firstsOf, ratios-by-development, target-by-rank}
-use Rattle.observations.specs.Arrays.{at, meanAt, priorAt, paidStepIn, HoldsChain}
+use Rattle.observations.specs.Arrays.{at, meanAt, priorAt}
+use Rattle.observations.specs.HoldsChain.{paidStepIn, HoldsChain}
 use Rattle.figures.specs.Weights.{observations, SharesOf, OwnWeights}
 use Rattle.figures.specs.WeightLaws.{observations-phi, observations-psi}
 use Rattle.figures.specs.Entries.{entryOf}

@@ -15,7 +15,8 @@ use Rattle.definitions.specs.Observations.{Chain}
 use Rattle.definitions.specs.Matrix.{own, matrix, rightHand, figuresFrom}
 use Rattle.laws.specs.Diagonal.{matrix-symmetric}
 use Rattle.laws.specs.Tables.{tab-cong}
-use Rattle.observations.specs.Arrays.{at, meanAt, priorAt, ratioAt, HoldsChain}
+use Rattle.observations.specs.Arrays.{at, meanAt, priorAt, ratioAt}
+use Rattle.observations.specs.HoldsChain.{HoldsChain}
 use Rattle.chain.specs.Arrays.{figuresAt, figuresOf, cell, cell-at, cell-mirrored}
 use Rattle.figures.specs.Weights.{Shares, SharesOf, OwnWeights}
 use Rattle.figures.specs.WeightLaws.{observations-few}

@@ -28,7 +28,8 @@
 --   what a test picks      only, only-yes, only-no, only-same, only-apart                                              SumRange
 --   sum and order          sum-mono, sum-nonneg, sum-term, sum-positive                                                SumOrder
 --   sum of naturals        total-zero, total-suc, total-next, total-cong, total-+, total-scale-right,
---                          total-mono, total-bound, total-const, total-split, total-grows, total-term, pos-total                    Total
+--                          total-mono, total-bound, total-const, total-split, total-first, total-grows, total-term,
+--                          pos-total                                                                                   Total
 --   sum of sizes           sizes, sum-size; else the laws of total                                                     Total
 --
 -- Names. A law is named by its left side read in order, as in the kit: `*ℤ-+ℤ` is about x · (y + z), `negℤ-*ℤ` about (−x) · y; so of

@@ -82,6 +82,20 @@ unfolding total
 total-split m zero f = ap (λ k. total k f) (add-zero m) ∙ sym (add-zero (total m f))
 total-split m (suc p) f = ap (λ k. total k f) (add-suc m p) ∙ (omega (arith, total-split m p f))
 
+-- the first term by itself
+pub total-first : (n : ℕ) (f : ℕ → ℕ) → total (n + 1) f ≡ f 0 + total n (λ k. f (1 + k))
+total-first n f =
+    let one : total 1 f ≡ f 0 = total-next 0 f ∙ ap (λ a. a + f 0) (total-zero f) ∙ alone (f 0) in
+    ap (λ m. total m f) (turned n)
+    ∙ total-split 1 n f
+    ∙ ap (λ a. a + total n (λ k. f (1 + k))) one
+  where
+    turned : (n : ℕ) → n + 1 ≡ 1 + n
+    turned n = omega arith
+
+    alone : (a : ℕ) → 0 + a ≡ a
+    alone a = omega arith
+
 pub total-grows : {m n : ℕ} (f : ℕ → ℕ) → m ≤ n → total m f ≤ total n f
 total-grows {m} {n} f l =
     let e : m + (n - m) ≡ n = omega arith in

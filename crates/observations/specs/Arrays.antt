@@ -1,12 +1,10 @@
 -- What the arrays of observations stand for.
-use Prim.Native.Nat.{ℕ, zero, suc, _+_, _*_, _^_, _-_, _≤_, _<_, min, max}
-use mathlib.Core.Path.{_≡_}
+use Prim.Native.Nat.{ℕ, _+_, _*_, _^_, min, max}
 use mathlib.Core.List.{List}
-use lib.IntN.{ℤ, _-ℤ_}
+use lib.IntN.{ℤ}
 use lib.ListN.{getD}
 use Rattle.definitions.specs.Words.{tabFrom, part}
-use Rattle.definitions.specs.Layout.{parts, psiIndex, cells, rowStart}
-use Rattle.definitions.specs.Observations.{Chain}
+use Rattle.definitions.specs.Layout.{parts, cells}
 use Rattle.definitions.specs.Sweep.{bringBack}
 use Rattle.definitions.specs.Kept.{Observed}
 use Rattle.observations.specs.declared.Observations.{Observations}
@@ -47,29 +45,3 @@ observedIn J o = record {
   ratioWeights = tabFrom 0 J (λ d. broughtWithin 0 (2 ^ 27) (ratioAt (o .weights) d));
   priorMeans = tabFrom 0 (parts J) (λ k. bringBack (meanAt (o .ticks) k));
 }
-
--- ---- the chain that they hold
-
--- x_(i,j), z_(i,j) and y_i from the logarithms by cell
-unfoldable pub paidStepIn : List ℤ → ℕ → ℕ → ℕ → ℤ
-paidStepIn ticks J i zero = part ticks (rowStart J i + 0)
-paidStepIn ticks J i (suc j) = part ticks (rowStart J i + suc j) -ℤ part ticks (rowStart J i + j)
-
-abbrev pub incurredStepIn : List ℤ → ℕ → ℕ → ℕ → ℤ
-incurredStepIn ticks J i j = part ticks (cells J + (rowStart J i + (j + 1))) -ℤ part ticks (cells J + (rowStart J i + j))
-
-abbrev pub lastRatioIn : List ℤ → ℕ → ℕ → ℤ
-lastRatioIn ticks J i = part ticks (cells J + (rowStart J i + (J - i))) -ℤ part ticks (rowStart J i + (J - i))
-
--- every observation of it, with its weight, is there
-pub record HoldsChain (c : Chain) (ticks : List ℤ) (weights : List ℕ) : Type 0 where
-  pub p : (i j : ℕ) → i + j ≤ c .last → c .p i j ≡ at weights j
-  pub q : (i j : ℕ) → i + j < c .last → c .q i j ≡ at weights (psiIndex (c .last) j)
-  pub s : (j : ℕ) → j ≤ c .last → c .s j ≡ priorAt weights j
-  pub t : (j : ℕ) → j < c .last → c .t j ≡ priorAt weights (psiIndex (c .last) j)
-  pub g : (d : ℕ) → d < c .last → c .g d ≡ ratioAt weights d
-  pub x : (i j : ℕ) → i + j ≤ c .last → c .x i j ≡ paidStepIn ticks (c .last) i j
-  pub z : (i j : ℕ) → i + j < c .last → c .z i j ≡ incurredStepIn ticks (c .last) i j
-  pub y : (i : ℕ) → i ≤ c .last → c .y i ≡ lastRatioIn ticks (c .last) i
-  pub priorΦ : (j : ℕ) → j ≤ c .last → c .priorΦ j ≡ meanAt ticks j
-  pub priorΨ : (j : ℕ) → j < c .last → c .priorΨ j ≡ meanAt ticks (psiIndex (c .last) j)

@@ -17,7 +17,8 @@ use Rattle.laws.specs.FileChain.{logarithm-limit}
 use Rattle.laws.specs.FileWeights.{part-from, part-to, prior-to, g-to}
 use Rattle.laws.specs.StepLaws.{bringBack-of-inside}
 use Rattle.laws.specs.Tables.{tab-cong}
-use Rattle.observations.specs.Arrays.{at, broughtWithin, observationsAt, observedIn, paidStepIn, HoldsChain}
+use Rattle.observations.specs.Arrays.{at, broughtWithin, observationsAt, observedIn}
+use Rattle.observations.specs.HoldsChain.{paidStepIn, HoldsChain}
 use Rattle.observations.specs.Reading.{PartsTo, Parts, Observes}
 use Rattle.observations.specs.Ratios.{ratioFrom, OfVariances, RatiosWeighed}
 use Rattle.observations.specs.RatioLaws.{ratioFrom-cong}

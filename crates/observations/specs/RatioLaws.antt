@@ -8,24 +8,11 @@ use native.Mathlib.Omega.{arith}
 use lib.ListN.{set, length-set}
 use lib.Seq.{getD-set-same, getD-set-other}
 use Rattle.integers.specs.Sum.{total}
-use Rattle.integers.specs.Total.{total-zero, total-next, total-split, total-bound, total-cong}
+use Rattle.integers.specs.Total.{total-zero, total-first, total-bound, total-cong}
 use Rattle.definitions.specs.Layout.{parts, psiIndex}
 use Rattle.definitions.specs.Weight.{weight}
 use Rattle.observations.specs.Arrays.{at, ratioAt}
 use Rattle.observations.specs.Ratios.{ratioFrom, OfVariances, WeighedFrom}
-
-total-first : (n : ℕ) (f : ℕ → ℕ) → total (n + 1) f ≡ f 0 + total n (λ i. f (1 + i))
-total-first n f =
-    let one : total 1 f ≡ f 0 = total-next 0 f ∙ ap (λ a. a + f 0) (total-zero f) ∙ alone (f 0) in
-    ap (λ m. total m f) (turned n)
-    ∙ total-split 1 n f
-    ∙ ap (λ a. a + total n (λ i. f (1 + i))) one
-  where
-    turned : (n : ℕ) → n + 1 ≡ 1 + n
-    turned n = omega arith
-
-    alone : (a : ℕ) → 0 + a ≡ a
-    alone a = omega arith
 
 module _ (J : ℕ) where
   -- one year more

@@ -28,7 +28,7 @@ fn four_cells<'a>(ticks: &'a mut [i64; 303], file: &'a [u8], c: usize)
     ticks[c + 3] = fourth;
 }
 
-// By cell, paid block first, into an array of zeros.
+// By cell, paid block first.
 pub fn read_logarithms<'a>(ticks: &'a mut [i64; 303], file: &'a [u8])
     requires { ⌜ OfCells (now file) (now ticks) ⌝ }
     ensures { λ r. ⌜ Logarithms (now (file .entry)) (now (ticks .exit)) ⌝ }
