@@ -49,8 +49,8 @@ typedef struct desk_session {
     int64_t matrix[961];
     int64_t right_hand[31];
     int64_t mean[31];
-    int64_t ticks[303];     /* of the file: the logarithms of its amounts, then its prior means */
-    uint64_t weights[77];   /* of its observations, of its priors, of its ratios */
+    int64_t ticks[303];     /* of the file: the logarithms of its amounts; from 272 on its prior means */
+    uint64_t weights[77];   /* of its observations; from 31 on of its priors, from 62 on of its ratios */
     uint64_t variances[31]; /* sigma squared, then tau squared */
 } desk_session;
 

@@ -1,15 +1,17 @@
-"""What definitions and pins say, to the letter. `test_promises` compares it; a bar stands before whatever is in no module, and at the end.
+"""What definitions, laws and contracts say, to the letter. `test_promises` compares it; a bar stands before whatever is in no module,
+and at the end.
 
-Of the definitions: how the fields of a file are read, how a logarithm is found, the observations and what a session keeps of them, and the
-checks 1 to 10, since a mistake that definition and code share would be proved. Of what a session stands for: its observations. Of the pins:
-what is said of logarithms, of amounts, of files without a prior, of own weights and right-hand sides in document 01's words, of number 16,
-of the numbers that there are and of a session as a whole, which no contract has; and of each file of pins, what its modules suppose, since
-one that supposes too much says nothing.
+Of the definitions: how the fields of a file are read, how a logarithm is found, the observations, the loss, the figures and what a session
+keeps, and the checks 1 to 10, since a mistake that definition and code share would be proved. Of the laws: what is asked of a chain, and of
+what is kept. Of contracts: what arrays stand for, what figures are made of, what open promises, and the sizes that are told.
 """
 
-TO_THE_LETTER = {
+DEFINED = {
     "definitions/Words": (
-        "| abbrev pub within : ℕ → ℕ → ℕ → Bool | within lo hi v = leb lo v && leb v hi |",
+        "| abbrev pub within : ℕ → ℕ → ℕ → Bool | within lo hi v = leb lo v && leb v hi "
+        "| unfoldable pub tabFrom : {A : Type 0} → ℕ → ℕ → (ℕ → A) → List A "
+        "| tabFrom i zero f = [] | tabFrom i (suc n) f = f i ∷ tabFrom (suc i) n f "
+        "| abbrev pub part : List ℤ → ℕ → ℤ | part l k = getD l k (pos 0) |",
     ),
     "definitions/Layout": (
         "| abbrev pub Bytes : Type 0 | Bytes = List ℕ "
@@ -109,6 +111,50 @@ TO_THE_LETTER = {
         "(ratioVariance f k); x = paidStep f; z = incurredStep f; y = lastRatio f; priorΦ = priorMean f; priorΨ = λ j. priorMean f "
         "(psiIndex (lastYear f) j); | }",
     ),
+    "definitions/Loss": (
+        "| abbrev pub Vector : Type 0 | Vector = ℕ → ℤ "
+        "| abbrev pub weighted : ℕ → ℤ → ℤ | weighted w d = pos w *ℤ (d *ℤ d) "
+        "| module _ (c : Chain) where abbrev pub phi : Vector → ℕ → ℤ phi u j = u j abbrev pub psi : Vector → ℕ → ℤ psi u j = u "
+        "(psiIndex (c .last) j) unfoldable pub ratio : Vector → ℕ → ℤ ratio u i = sum i (λ m. phi u (c .last - i + 1 + m)) -ℤ sum i "
+        "(λ n. psi u (c .last - i + n)) unfoldable pub lossTimes : ℕ → Vector → ℤ lossTimes m u = sum (c .last + 1) (λ j. sum (c "
+        ".last - j + 1) (λ i. weighted (c .p i j) (phi u j -ℤ pos m *ℤ c .x i j))) +ℤ sum (c .last) (λ j. sum (c .last - j) (λ i. "
+        "weighted (c .q i j) (psi u j -ℤ pos m *ℤ c .z i j))) +ℤ sum (c .last) (λ k. weighted (c .g (c .last - (k + 1))) (ratio u (k "
+        "+ 1) -ℤ pos m *ℤ c .y (k + 1))) +ℤ sum (c .last + 1) (λ j. weighted (c .s j) (phi u j -ℤ pos m *ℤ c .priorΦ j)) +ℤ sum (c "
+        ".last) (λ j. weighted (c .t j) (psi u j -ℤ pos m *ℤ c .priorΨ j)) "
+        "| abbrev pub loss : Chain → Vector → ℤ | loss c u = lossTimes c 1 u |",
+    ),
+    "definitions/Matrix": (
+        "| pub data Part : Type 0 where Φ : ℕ → Part Ψ : ℕ → Part "
+        "| unfoldable pub partOf : ℕ → ℕ → Part | partOf J k = cond (leb k J) (Φ k) (Ψ (k - (J + 1))) "
+        "| module _ (c : Chain) where abbrev pub ownOf : Part → ℕ ownOf (Φ j) = c .s j + total (c .last - j + 1) (λ i. c .p i j) "
+        "ownOf (Ψ j) = c .t j + total (c .last - j) (λ i. c .q i j) abbrev pub sharedBy : ℕ → ℤ sharedBy n = sum n (λ i. pos (c .g "
+        "i)) abbrev pub onDiagonal : ℕ → ℕ → ℕ → ℤ onDiagonal n m D = cond (eqb n m) (pos D) (pos 0) abbrev pub between : Part → "
+        "Part → ℤ between (Φ n) (Φ m) = onDiagonal n m (ownOf (Φ n)) +ℤ sharedBy (min n m) between (Ψ n) (Ψ m) = onDiagonal n m "
+        "(ownOf (Ψ n)) +ℤ sharedBy (min n m + 1) between (Φ n) (Ψ m) = negℤ (sharedBy (min n (m + 1))) between (Ψ m) (Φ n) = negℤ "
+        "(sharedBy (min n (m + 1))) abbrev pub ratiosOfLast : ℕ → ℤ ratiosOfLast n = sum n (λ k. pos (c .g (c .last - (c .last - n + "
+        "1 + k))) *ℤ c .y (c .last - n + 1 + k)) abbrev pub targetOf : Part → ℤ targetOf (Φ j) = pos (c .s j) *ℤ c .priorΦ j +ℤ sum "
+        "(c .last - j + 1) (λ i. pos (c .p i j) *ℤ c .x i j) +ℤ ratiosOfLast j targetOf (Ψ j) = pos (c .t j) *ℤ c .priorΨ j +ℤ sum "
+        "(c .last - j) (λ i. pos (c .q i j) *ℤ c .z i j) -ℤ ratiosOfLast (j + 1) unfoldable pub own : ℕ → ℕ own k = ownOf (partOf (c "
+        ".last) k) unfoldable pub matrix : ℕ → ℕ → ℤ matrix k l = between (partOf (c .last) k) (partOf (c .last) l) unfoldable pub "
+        "rightHand : ℕ → ℤ rightHand k = targetOf (partOf (c .last) k) unfoldable pub residueTimes : ℕ → Vector → ℕ → ℤ residueTimes "
+        "m u k = sum (parts (c .last)) (λ l. matrix k l *ℤ u l) -ℤ pos m *ℤ rightHand k "
+        "| pub record Figures : Type 0 where pub last : ℕ pub closeness : ℕ pub own : List ℕ pub matrix : List (List ℤ) pub "
+        "rightHand : List ℤ | unfoldable pub figuresFrom : Chain → ℕ → Figures "
+        "| figuresFrom c e = record { last = c .last; closeness = e; own = tabFrom 0 (parts (c .last)) (own c); matrix = tabFrom 0 "
+        "(parts (c .last)) (λ k. tabFrom 0 (parts (c .last)) (matrix c k)); rightHand = tabFrom 0 (parts (c .last)) (rightHand c); "
+        "| } | abbrev pub figuresOf : Bytes → Figures "
+        "| figuresOf f = figuresFrom (chainOf f) (closeness f) "
+        "| pub data Judgement : Type 0 where passed : Judgement fails : ℕ → Judgement "
+        "| module _ (F : Figures) where abbrev pub entry : ℕ → ℕ → ℤ entry k l = part (getD (F .matrix) k []) l unfoldable pub "
+        "residue : Vector → ℕ → ℤ residue u k = sum (parts (F .last)) (λ l. entry k l *ℤ u l) -ℤ part (F .rightHand) k abbrev pub "
+        "partPasses : Vector → ℕ → Bool partPasses u k = leb (natAbs (residue u k)) (F .closeness * getD (F .own) k 0) unfoldable "
+        "pub judgeFrom : Vector → ℕ → ℕ → Judgement judgeFrom u k zero = passed judgeFrom u k (suc n) = cond (partPasses u k) "
+        "(judgeFrom u (suc k) n) (fails k) abbrev pub judgement : Vector → Judgement judgement u = judgeFrom u 0 (parts (F .last)) "
+        "| abbrev pub isPassed : Judgement → Bool "
+        "| isPassed passed = true | isPassed (fails k) = false "
+        "| abbrev pub passes : Figures → Vector → Bool "
+        "| passes F u = isPassed (judgement F u) |",
+    ),
     "definitions/Kept": (
         "| pub record Observed : Type 0 where pub logarithms : List ℤ pub variances : List ℕ pub weights : List ℕ pub priorWeights : "
         "List ℕ "
@@ -127,6 +173,9 @@ TO_THE_LETTER = {
         "| abbrev above-2^44-in-8 : Bytes | above-2^44-in-8 = 0 ∷ 0 ∷ 16 ∷ 0 ∷ 0 ∷ 0 ∷ 0 ∷ 1 ∷ [] |",
         "| abbrev amountsF : (p₀ e p₁ i₀ i₁ : Bytes) → Bytes | amountsF p₀ e p₁ i₀ i₁ = before 1 10T-in-4 2^46-in-8 2^46-in-8 "
         "2^46-in-8 ++ p₀ ++ e ++ p₁ ++ i₀ ++ e ++ i₁ |",
+        "pub F-observed : observedOf (fileF 1) ≡ record { logarithms = pos 10485760 ∷ pos 11534336 ∷ pos 10485760 ∷ pos 12582912 ∷ "
+        "pos 11534336 ∷ pos 12582912 ∷ []; variances = 1073741824 ∷ 1073741824 ∷ 1073741824 ∷ []; weights = 65536 ∷ 65536 ∷ 65536 ∷ "
+        "[]; priorWeights = 1 ∷ 1 ∷ 1 ∷ []; ratioWeights = 32768 ∷ []; priorMeans = mean 0 0; } pub F-own",
         "pub log-of-1 : logarithm 1 ≡ 0 pub log-of-2^40 : logarithm (2 ^ 40) ≡ 41943040 pub log-of-2^44 : logarithm (2 ^ 44) ≡ "
         "46137344 pub log-of-3 : logarithm 3 ≡ 1661954 pub weight-of-2^18",
         "pub largest-accepted : accepted (amountsF 2^44-in-8 2^44-in-8 2^44-in-8 2^44-in-8 2^44-in-8) ≡ true "
@@ -141,52 +190,37 @@ TO_THE_LETTER = {
         "pub amount-0 : fileCheck (amountsF 1-in-8 2^44-in-8 0-in-8 1-in-8 1-in-8) ≡ refuses 9 86 |",
         "| pub jointTable : JointTable | unfolding",
     ),
-    "laws/PinnedLogarithms": (
-        "| pub logarithm-bounded : (a : ℕ) → 1 ≤ a → a < 2 ^ 64 "
-        "→ (2 ^ (2 * logarithm a) ≤ 2 * a ^ 2097152) × (2 * a ^ 2097152 < 2 ^ (2 * logarithm a + 3)) | logarithm-bounded",
-        "| pub logarithm-nearest : (a : ℕ) → 1 ≤ a → a < 2 ^ 64 → 511 * a ^ 2097152 < 512 * 2 ^ (2 * logarithm a + 1) | logarithm-nearest",
-        "| pub larger-logarithm : (a b : ℕ) → 1 ≤ a → a ≤ b → b < 2 ^ 64 → logarithm a ≤ logarithm b | larger-logarithm",
-        "| pub one-tick-at-most : (a : ℕ) → let y : ℕ = startFrom (highestBit a) a in "
-        "logarithm a ≡ highestBit a * 1048576 + bitsOf 20 y 0 + bitsOf 21 y 0 % 2 | one-tick-at-most",
-        "| pub largest-logarithm : (a : ℕ) → 1 ≤ a → a ≤ 2 ^ 44 → logarithm a ≤ 46137344 | largest-logarithm",
+    "laws/Chains": (
+        "| abbrev pub weightLimit : ℕ | weightLimit = 2 ^ 28 "
+        "| abbrev pub shareLimit : ℕ | shareLimit = 2 ^ 27 "
+        "| abbrev pub observedLimit : ℕ | observedLimit = 44 * ticksPerDoubling "
+        "| pub record Bounded (c : Chain) : Type 0 where pub years : c .last ≤ yearLimit pub p-to : (i j : ℕ) → i + j ≤ c .last → c "
+        ".p i j ≤ weightLimit pub q-to : (i j : ℕ) → i + j < c .last → c .q i j ≤ weightLimit pub s-to : (j : ℕ) → j ≤ c .last → c "
+        ".s j ≤ weightLimit pub t-to : (j : ℕ) → j < c .last → c .t j ≤ weightLimit pub g-to : (d : ℕ) → d < c .last → c .g d ≤ "
+        "shareLimit pub x-to : (i j : ℕ) → i + j ≤ c .last → natAbs (c .x i j) ≤ observedLimit pub z-to : (i j : ℕ) → i + j < c "
+        ".last → natAbs (c .z i j) ≤ observedLimit pub y-to : (i : ℕ) → i ≤ c .last → natAbs (c .y i) ≤ observedLimit pub priorΦ-to "
+        ": (j : ℕ) → j ≤ c .last → natAbs (c .priorΦ j) ≤ partLimit pub priorΨ-to : (j : ℕ) → j < c .last → natAbs (c .priorΨ j) ≤ "
+        "partLimit | pub record Carried (c : Chain) : Type 0 where pub x-year : ℕ → ℕ pub x-there : (j : ℕ) → j ≤ c .last → x-year j "
+        "+ j ≤ c .last pub x-counts : (j : ℕ) → j ≤ c .last → 1 ≤ c .p (x-year j) j pub x-shares : (d j : ℕ) → d < j → j ≤ c .last → "
+        "c .g d ≤ c .p (x-year j) j pub z-year : ℕ → ℕ pub z-there : (j : ℕ) → j < c .last → z-year j + j < c .last pub z-counts : "
+        "(j : ℕ) → j < c .last → 1 ≤ c .q (z-year j) j pub z-shares : (d j : ℕ) → d ≤ j → j < c .last → c .g d ≤ c .q (z-year j) j |",
     ),
-    "laws/Number16": (
-        "| module _ (f : Bytes) where abbrev pub oneToTen : Check oneToTen = check1 f then check2 f then check3 f then check4 f "
-        "then check5 f then check6 f then check7 f then check8 f then check9 f then check10 f pub accepted-exactly",
-        "pub accepted-exactly : (accepted f ≡ true) ↔ (oneToTen ≡ clear) unfolding",
-        "pub positive : oneToTen ≡ clear → (k : ℕ) → k < 2 * lastYear f + 1 → pos 0 <ℤ matrix (chainOf f) k k unfolding",
-        "pub zero-refused : (k : ℕ) → k < 2 * lastYear f + 1 → matrix (chainOf f) k k ≡ pos 0 → check16 ≡ refuses 16 0 zero-refused",
-        "pub no-zero-clear : ((k : ℕ) → k < 2 * lastYear f + 1 → matrix (chainOf f) k k ≢ pos 0) → check16 ≡ clear no-zero-clear",
-        "| pub refuses-no-bytes : check16 [] ≡ refuses 16 0 | unfolding",
-        "| module _ (X : Type 0) (K : Keeping X) where abbrev pub openWith16 : State X → Bytes → Outcome X "
-        "openWith16 empty f = openUnless K (oneToTen f then check16 f) f "
-        "openWith16 (holds x μ total) f = answers (holds x μ total) (refused 22 0) pub alike-without-16",
-        "pub alike-without-16 : (st : State X) (f : Bytes) → openWith16 st f ≡ openCall K st f unfolding",
-        "pub never-16 : (st : State X) (call : Call) (place : ℕ) → outcome K st call .answer ≢ refused 16 place never-16",
+    "laws/FileChain": (
+        "| pub file-chain : (f : Bytes) → AcceptedFile f → Bounded (chainOf f) × Carried (chainOf f) "
+        "| file-chain",
     ),
-    "laws/Pinned": (
-        "| pub in-table : (X : Type 0) (K : Keeping X) (st : State X) (call : Call) (number place : ℕ) "
-        "→ outcome K st call .answer ≡ refused number place "
-        "→ ((1 ≤ number) × (number ≤ 15)) ⊎ ((21 ≤ number) × (number ≤ 24)) | in-table",
-        "| pub same-outcomes : (calls : List Call) (st : State Bytes) "
-        "→ outcomes inSession (mapState keptOf st) calls ≡ map (mapOutcome keptOf) (outcomes theFile st calls) | same-outcomes",
+    "laws/Demand3": (
+        "| module _ (c : Chain) (e : ℕ) (μ : Vector) where",
+        "pub guaranteed : Carried c → passes (figuresFrom c e) μ ≡ true → Guarantee c e μ guaranteed h",
+        "| pub rounded-passes : (c : Chain) (e : ℕ) → Carried c → c .last ≤ yearLimit → RoundingPasses c e "
+        "| rounded-passes",
     ),
-    "opening/Pinned": (
-        "pub opened-keeps : sessionState p t ≡ holds (keptOf f) (tabFrom 0 (parts (lastYear f)) (priorMean f)) 0 opened-keeps",
-        "| pub as-with-16 : (s t : Held) (o p : Observations) (f : Bytes) (r : OpenAnswer) → Opens s o f r t p "
-        "→ let with-16 : Outcome Kept = openWith16 Kept inSession (sessionState o s) f in "
-        "(ofOpen r ≡ with-16 .answer) × (sessionState p t ≡ with-16 .state) | as-with-16",
-    ),
-    "laws/Columns": (
-        "| module _ (f : Bytes) (j : ℕ) where abbrev J : ℕ J = lastYear f abbrev c : Chain c = chainOf f module _ (below : j ≤ J) where "
-        "pub "
-        "own-phi : own c j ≡ weight (priorVariance f j) + (J - j + 1) * weight (σ² f j) unfolding",
-        "pub right-hand-phi : rightHand c j ≡ pos (weight (priorVariance f j)) *ℤ priorMean f j +ℤ pos (weight (σ² f j)) *ℤ sum (J - j + "
-        "1) "
-        "(λ i. paidStep f i j) +ℤ ratiosOfLast c j unfolding",
-        "pub own-psi : own c (psiIndex J j) ≡ weight (priorVariance f (psiIndex J j)) + (J - j) * weight (τ² f j) unfolding",
-        "pub right-hand-psi : rightHand c (psiIndex J j) ≡ pos (weight (priorVariance f (psiIndex J j))) *ℤ priorMean f (psiIndex J j) +ℤ "
-        "pos (weight (τ² f j)) *ℤ sum (J - j) (λ i. incurredStep f i j) -ℤ ratiosOfLast c (j + 1) unfolding",
+    "laws/MachineLaws": (
+        "| pub record Alike {X Y : Type 0} (K : Keeping X) (L : Keeping Y) (φ : X → Y) : Type 0 where pub keeps : (f : Bytes) → φ (K "
+        ".keep f) ≡ L .keep f pub figures : (x : X) → L .figures (φ x) ≡ K .figures x pub priorMeans : (x : X) → L .priorMeans (φ x) "
+        "≡ K .priorMeans x | module _ {X Y : Type 0} (K : Keeping X) (L : Keeping Y) (φ : X → Y) (h : Alike K L φ) where",
+        "pub outcomes-alike : (calls : List Call) (st : State X) → outcomes L (mapState φ st) calls ≡ map (mapOutcome φ) (outcomes K "
+        "st calls) unfolding",
     ),
     "observations/Arrays": (
         "| abbrev pub broughtWithin : ℕ → ℕ → ℕ → ℕ | broughtWithin lo hi v = max lo (min hi v) "
@@ -198,157 +232,53 @@ TO_THE_LETTER = {
         "ratioWeights = tabFrom 0 J (λ d. broughtWithin 0 (2 ^ 27) (ratioAt (o .weights) d)); "
         "priorMeans = tabFrom 0 (parts J) (λ k. bringBack (meanAt (o .ticks) k)); | } |",
     ),
+    "observations/HoldsChain": (
+        "| unfoldable pub paidStepIn : List ℤ → ℕ → ℕ → ℕ → ℤ "
+        "| paidStepIn ticks J i zero = part ticks (rowStart J i + 0) "
+        "| paidStepIn ticks J i (suc j) = part ticks (rowStart J i + suc j) -ℤ part ticks (rowStart J i + j) "
+        "| abbrev pub incurredStepIn : List ℤ → ℕ → ℕ → ℕ → ℤ "
+        "| incurredStepIn ticks J i j = part ticks (cells J + (rowStart J i + (j + 1))) -ℤ part ticks (cells J + (rowStart J i + j)) "
+        "| abbrev pub lastRatioIn : List ℤ → ℕ → ℕ → ℤ "
+        "| lastRatioIn ticks J i = part ticks (cells J + (rowStart J i + (J - i))) -ℤ part ticks (rowStart J i + (J - i)) "
+        "| pub record HoldsChain (c : Chain) (ticks : List ℤ) (weights : List ℕ) : Type 0 where pub p : (i j : ℕ) → i + j ≤ c .last "
+        "→ c .p i j ≡ at weights j pub q : (i j : ℕ) → i + j < c .last → c .q i j ≡ at weights (psiIndex (c .last) j) pub s : (j : "
+        "ℕ) → j ≤ c .last → c .s j ≡ priorAt weights j pub t : (j : ℕ) → j < c .last → c .t j ≡ priorAt weights (psiIndex (c .last) "
+        "j) pub g : (d : ℕ) → d < c .last → c .g d ≡ ratioAt weights d pub x : (i j : ℕ) → i + j ≤ c .last → c .x i j ≡ paidStepIn "
+        "ticks (c .last) i j pub z : (i j : ℕ) → i + j < c .last → c .z i j ≡ incurredStepIn ticks (c .last) i j pub y : (i : ℕ) → i "
+        "≤ c .last → c .y i ≡ lastRatioIn ticks (c .last) i pub priorΦ : (j : ℕ) → j ≤ c .last → c .priorΦ j ≡ meanAt ticks j pub "
+        "priorΨ : (j : ℕ) → j < c .last → c .priorΨ j ≡ meanAt ticks (psiIndex (c .last) j) |",
+    ),
+    "figures/Gathered": (
+        "| pub record OfObservations (ticks : List ℤ) (weights : List ℕ) (last : ℕ) : Type 0 where pub few : last ≤ yearLimit pub "
+        "logs-small : (c : ℕ) → c < 2 * cells last → natAbs (part ticks c) ≤ 2 ^ 26 pub means-small : (k : ℕ) → k < parts last → "
+        "natAbs (meanAt ticks k) ≤ 2 ^ 26 pub columns-small : (k : ℕ) → k < parts last → at weights k ≤ 2 ^ 28 pub priors-small : (k "
+        ": ℕ) → k < parts last → priorAt weights k ≤ 2 ^ 28 pub ratios-small : (d : ℕ) → d < last → ratioAt weights d ≤ 2 ^ 27 "
+        "| pub record FiguresOf (ticks : List ℤ) (weights : List ℕ) (last : ℕ) (D : List ℕ) (A b : List ℤ) : Type 0 where pub are : "
+        "(c : Chain) → c .last ≡ last → HoldsChain c ticks weights → (e : ℕ) → figuresOf (figuresAt last e D A b) ≡ figuresFrom c e |",
+    ),
     "holding/State": (
         "| abbrev pub keptWith : Observations → D.Figures → Kept | keptWith o F = record { figures = F; observed = observedIn (F .last) "
         "o } "
         "| abbrev pub sessionState : Observations → Held → State Kept | sessionState o s = mapState (keptWith o) (stateOf s) |",
     ),
-    "desk/PinnedSession": (
-        "| module _ (o : Observations) (s : Held) where abbrev st : State Kept st = sessionState o s pub opens-all : (p : Observations) "
-        "(t : Held) (file : Bytes) (r : Refusal) → Opens s o file r t p → let x : Outcome Kept = outcome inSession st (open-file file) in "
-        "(r ≡ refusalTold (x .answer)) × (sessionState p t ≡ x .state) unfolding",
-        "pub judges-all : (lent : Bytes) (r : Judged) → Judges s lent r → r ≡ judgeTold (outcome inSession st (judge lent) .answer) "
-        "judges-all",
-        "pub sweeps-all : (t : Held) (n : ℕ) (r : Swept) → Sweeps s n r t → let x : Outcome Kept = outcome inSession st (sweep n) in "
-        "(r ≡ sweepTold (x .answer)) × (sessionState o t ≡ x .state) sweeps-all",
-        "abbrev Written : Refusal → Bytes → Outcome Kept → Type 0 Written r after x = (r ≡ refusalTold (x .answer)) × (after ≡ x .buffer) "
-        "pub reads-all : (lent after : Bytes) (r : Refusal) → Reads s lent r after → Written r after (outcome inSession st (read lent)) "
-        "reads-all",
-        "pub pages-all : (lent after : Bytes) (r : Refusal) → Pages s lent r after → Written r after (outcome inSession st (page lent)) "
-        "pages-all",
-        "pub closes-all : (held : List ℕ) → Closes held → (D : List ℕ) (A b μ : List ℤ) (p : Observations) → sessionState p (heldIn held "
-        "D A b μ) ≡ outcome inSession st close .state unfolding",
+    "opening/Opens": (
+        "| abbrev pub ofOpen : OpenAnswer → Answer "
+        "| ofOpen Opened = M.opened | ofOpen (Refused number place) = M.refused number place "
+        "| abbrev pub opensTo : State Kept → Bytes → Outcome Kept "
+        "| opensTo = openCall inSession | pub record Opens (s : Held) (o : Observations) (file : Bytes) (r : OpenAnswer) (t : Held) "
+        "(p : Observations) : Type 0 where pub answer : ofOpen r ≡ opensTo (sessionState o s) file .answer pub state : sessionState "
+        "p t ≡ opensTo (sessionState o s) file .state pub same : (number place : ℕ) → r ≡ Refused number place → (t ≡ s) × (p ≡ o) |",
     ),
-    "laws/PinnedPriors": (
-        "| pub prior-variance-taken : (v : ℕ) → (goodPriorVariance v ≡ true) ↔ ((v ≡ 0) ⊎ ((262144 ≤ v) × (v ≤ 70368744177664))) "
-        "| prior-variance-taken v =",
-        "| module _ (f : Bytes) where abbrev J : ℕ J = lastYear f abbrev c : Chain c = chainOf f abbrev with-priors : Check "
-        "with-priors = check1 f then check2 f then check3 f then check4 f then check5 f then check6 f then fields (λ k. within 262144 "
-        "70368744177664 (priorVariance f k)) 7 (priorVarianceAt J) 0 (2 * J + 1) then check8 f then check9 f then check10 f module _ "
-        "(was : isClear with-priors ≡ true) where pub accepted-still :",
-        "pub accepted-still : accepted f ≡ true accepted-still =",
-        "pub opened-still : (X : Type 0) (K : Keeping X) → openUnless K with-priors f ≡ openCall K empty f opened-still =",
-        "pub row-still : (channel year : ℕ) → with-priors then unless (leb channel 1) 14 0 then unless (leb year J) 15 0 ≡ rowCheck f "
-        "channel year row-still =",
-        "pub same-with-priors : ((k : ℕ) → k < 2 * J + 1 → priorVariance f k ≢ 0) → with-priors ≡ fileCheck f same-with-priors =",
-        "pub phi-owned : accepted f ≡ true → (j : ℕ) → j ≤ J → (1 ≤ weight (σ² f j)) × (weight (σ² f j) ≤ own c j) phi-owned =",
-        "pub psi-owned : accepted f ≡ true → (j : ℕ) → j < J → (1 ≤ weight (τ² f j)) × (weight (τ² f j) ≤ own c (J + 1 + j)) "
-        "psi-owned =",
-        "pub phi-alone : (j : ℕ) → j ≤ J → priorVariance f j ≡ 0 → (own c j ≡ (J - j + 1) * weight (σ² f j)) × (rightHand c j ≡ pos "
-        "(weight (σ² f j)) *ℤ sum (J - j + 1) (λ i. paidStep f i j) +ℤ ratiosOfLast c j) phi-alone j below none =",
-        "pub psi-alone : (j : ℕ) → j < J → priorVariance f (J + 1 + j) ≡ 0 → (own c (J + 1 + j) ≡ (J - j) * weight (τ² f j)) × "
-        "(rightHand c (J + 1 + j) ≡ pos (weight (τ² f j)) *ℤ sum (J - j) (λ i. incurredStep f i j) -ℤ ratiosOfLast c (j + 1)) "
-        "psi-alone j below none =",
+    "desk/Calls": (
+        "| abbrev pub Numbered : Answer → Type 0 | Numbered a = (place : ℕ) → a ≢ refused 0 place "
+        "| pub record Opens (s : Held) (o : Observations) (file : Bytes) (r : Refusal) (t : Held) (p : Observations) : Type 0 where "
+        "pub told : r ≡ refusalTold (opensTo (sessionState o s) file .answer) pub numbered : Numbered (opensTo (sessionState o s) "
+        "file .answer) pub state : sessionState p t ≡ opensTo (sessionState o s) file .state pub same : r .number ≢ 0 → (t ≡ s) × (p "
+        "≡ o) |",
     ),
-    "laws/PinnedAmounts": (
-        "| pub amount-taken : (a : ℕ) → (goodAmount a ≡ true) ↔ ((1 ≤ a) × (a ≤ 17592186044416)) | amount-taken a =",
-        "| module _ (f : Bytes) where abbrev J : ℕ J = lastYear f abbrev c : Chain c = chainOf f abbrev pub upTo : ℕ → Check upTo "
-        "limit = check1 f then check2 f then check3 f then check4 f then check5 f then check6 f then check7 f then check8 f then "
-        "fields (λ k. within 1 limit (amount f k)) 9 (amountAt J) 0 (2 * cells J) then check10 f pub up-to-2^44 :",
-        "pub up-to-2^44 : upTo 17592186044416 ≡ fileCheck f up-to-2^44 =",
-        "pub as-before : accepted f ≡ true as-before =",
-        "pub opened-as-before : (X : Type 0) (K : Keeping X) → openUnless K (upTo 1099511627776) f ≡ openCall K empty f "
-        "opened-as-before =",
-        "pub row-as-before : (channel year : ℕ) → upTo 1099511627776 then unless (leb channel 1) 14 0 then unless (leb year J) 15 0 ≡ "
-        "rowCheck f channel year row-as-before =",
-        "pub same-to-2^40 : ((k : ℕ) → k < 2 * cells J → (amount f k ≤ 1099511627776) ⊎ (17592186044416 < amount f k)) → upTo "
-        "1099511627776 ≡ fileCheck f same-to-2^40 =",
-        "module _ (yes-file : accepted f ≡ true) where known : AcceptedFile f known = accepted-file f yes-file bounded : Bounded "
-        "c bounded = file-chain f known .0 pub logarithm-to : (k : ℕ) → k < 2 * cells J → logarithm (amount f k) ≤ 46137344 logarithm-to "
-        "k below =",
-        "pub paid-step-to : (i j : ℕ) → i + j ≤ J → natAbs (paidStep f i j) ≤ 46137344 paid-step-to =",
-        "pub incurred-step-to : (i j : ℕ) → i + j < J → natAbs (incurredStep f i j) ≤ 46137344 incurred-step-to =",
-        "pub last-ratio-to : (i : ℕ) → i ≤ J → natAbs (lastRatio f i) ≤ 46137344 last-ratio-to =",
-        "pub paid-sum-to : (j : ℕ) → j ≤ J → natAbs (sum (J - j + 1) (λ i. paidStep f i j)) ≤ 738197504 paid-sum-to =",
-        "pub incurred-sum-to : (j : ℕ) → j < J → natAbs (sum (J - j) (λ i. incurredStep f i j)) ≤ 692060160 incurred-sum-to =",
-        "pub own-side-of-phi-to : (j : ℕ) → j ≤ J → natAbs (pos (c .s j) *ℤ c .priorΦ j +ℤ pos (weight (σ² f j)) *ℤ sum (J - j + "
-        "1) (λ i. c .x i j)) ≤ 1536 * 2 ^ 47 own-side-of-phi-to j below =",
-        "pub own-side-of-psi-to : (j : ℕ) → j < J → natAbs (pos (c .t j) *ℤ c .priorΨ j +ℤ pos (weight (τ² f j)) *ℤ sum (J - j) "
-        "(λ i. c .z i j)) ≤ 1536 * 2 ^ 47 own-side-of-psi-to j below =",
-        "pub ratios-to : (m : ℕ) → m ≤ J → natAbs (ratiosOfLast c m) ≤ 660 * 2 ^ 47 ratios-to =",
-        "pub right-hand-to : (k : ℕ) → k < 2 * J + 1 → natAbs (rightHand c k) ≤ 2196 * 2 ^ 47 right-hand-to =",
-        "pub residue-to : (μ : Vector) → ((l : ℕ) → l < 2 * J + 1 → natAbs (μ l) ≤ 67108864) → (k : ℕ) → k < 2 * J + 1 → natAbs "
-        "(residueTimes c 1 μ k) ≤ 19732 * 2 ^ 47 residue-to =",
-        "pub divided-to : (μ : Vector) → ((l : ℕ) → l < 2 * J + 1 → natAbs (μ l) ≤ 67108864) → (k : ℕ) → k < 2 * J + 1 → natAbs "
-        "(matrix c k k -ℤ pos 2 *ℤ residueTimes c 1 μ k) ≤ 39465 * 2 ^ 47 divided-to =",
-    ),
-}
-
-# By file of pins: the parameters of its modules, in their order.
-SUPPOSED = {
-    "laws/Pinned": (
-        "(f : Bytes)",
-        "(yes-file : accepted f ≡ true) (μ : Vector)",
-        "(X : Type 0) (K : Keeping X) (st : State X)",
-    ),
-    "laws/PinnedAmounts": (
-        "(f : Bytes)",
-        "(was : isClear (upTo 1099511627776) ≡ true)",
-        "(yes-file : accepted f ≡ true)",
-    ),
-    "laws/PinnedPage": (
-        "(f : Bytes) (yes-file : accepted f ≡ true) (μ : List ℤ) (limits : (k : ℕ) → k < 2 * lastYear f + 1 → natAbs (part μ k) ≤ "
-        "67108864)",
-        "(k : ℕ) (below : k < 2 * lastYear f + 1)",
-    ),
-    "laws/PinnedPriors": (
-        "(f : Bytes)",
-        "(was : isClear with-priors ≡ true)",
-    ),
-    "laws/Number16": (
-        "(f : Bytes)",
-        "(X : Type 0) (K : Keeping X)",
-    ),
-    "row_starts/Pinned": (
-        "(J : ℕ) (r : List ℕ) (starts : Starts J r)",
-    ),
-    "holding/Pinned": (
-        "(s : Held) (f : Bytes) (μ : List ℤ) (total : ℕ)",
-    ),
-    "laws/Columns": (
-        "(n w : ℕ) (p : ℕ → ℕ) (one : (i : ℕ) → i < n → p i ≡ w)",
-        "(c : Chain)",
-        "(j w : ℕ) (below : j ≤ c .last) (one : (i : ℕ) → i + j ≤ c .last → c .p i j ≡ w)",
-        "(j w : ℕ) (one : (i : ℕ) → i + j < c .last → c .q i j ≡ w)",
-        "(f : Bytes) (j : ℕ)",
-        "(below : j ≤ J)",
-    ),
-    "opening/Pinned": (
-        "(s t : Held) (o p : Observations) (f : Bytes) (none : stateOf s ≡ empty) (call : Opens s o f Opened t p)",
-    ),
-    "desk/PinnedSession": (
-        "(o : Observations) (s : Held)",
-    ),
-    "judging/Pinned": (
-        "(f : Bytes) (s : Held) (μ : List ℤ) (count : ℕ) (open-file : HoldsFile s f μ count) (r : Bytes) {a : JudgeAnswer} (call "
-        ": Judges s r a)",
-    ),
-    "sweeping/Pinned": (
-        "(f : Bytes) (s t : Held) (μ ν : List ℤ) (count after : ℕ) (before : HoldsFile s f μ count) (then : HoldsFile t f ν "
-        "after) (n : ℕ) {a : SweepAnswer} (call : Sweeps s n a t)",
-    ),
-    "writing/Pinned": (
-        "(f : Bytes) (s : Held) (μ : List ℤ) (count : ℕ) (open-file : HoldsFile s f μ count)",
-    ),
-    "showing/Pinned": (
-        "(s : Held) (r : Showing) (call : Shows s r)",
-        "(F : Figures) (μ : List ℤ) (count : ℕ) (some : stateOf s ≡ holds F μ count)",
-        "(f : Bytes) (μ : List ℤ) (count : ℕ) (open-file : HoldsFile s f μ count)",
-    ),
-    "desk/Pinned": (
-        "(s t : Held)",
-        "(o p : Observations) (file : Bytes) (r : Refusal) (call : Opens s o file r t p)",
-        "(n : ℕ) (r : Swept) (call : Sweeps s n r t)",
-        "(s : Held) (lent : Bytes)",
-        "(r : Judged) (call : Judges s lent r)",
-        "(size : ℕ → ℕ) (text : Text) (r : Refusal) (after : Bytes) (call : Writes size text s lent r after)",
-        "(F : Figures) (μ : List ℤ) (count : ℕ) (some : stateOf s ≡ holds F μ count) (p : passes F (part μ) ≡ true)",
-        "(s : Held) (r : System) (call : Shows s r)",
-        "(F : Figures) (μ : List ℤ) (count : ℕ) (some : stateOf s ≡ holds F μ count)",
-        "(f : Bytes) (μ : List ℤ) (count : ℕ) (open-file : HoldsFile s f μ count)",
-        "(file : Bytes) (channel year : ℕ) (r : RowShown) (call : ShowsRow file channel year r)",
-        "(f : Bytes) (s : Held) (μ : List ℤ) (count : ℕ) (open-file : HoldsFile s f μ count)",
-        "(mean : Bytes) (r : Judged) (call : Judges s mean r)",
-        "(n : ℕ) (r : Swept) (t : Held) (call : Sweeps s n r t) (ν : List ℤ)",
+    "desk/Sizes": (
+        "| abbrev pub sizes : List ℕ | sizes = 3 ∷ parts yearLimit ∷ (parts yearLimit * parts yearLimit) ∷ parts yearLimit ∷ parts "
+        "yearLimit ∷ (2 * cells yearLimit + parts yearLimit) ∷ (2 * parts yearLimit + yearLimit) ∷ parts yearLimit ∷ [] "
+        "| abbrev pub sizeOf : ℕ → ℕ | sizeOf array = getD sizes array 0 |",
     ),
 }

@@ -134,6 +134,16 @@ class Border(unittest.TestCase):
         self.assertGreaterEqual(len(calls_of_rattle()), 9)
         self.assertEqual(len(calls_of_rattle()), SOURCES.count("#[no_mangle]"))
 
+    def test_what_the_header_lends(self) -> None:
+        """Each field of a session stands at the place of its name, and what else a call is given behind them."""
+        lent = re.findall(r"\b(desk_\w+_lent)\((s->[^;]*)\);", HEADER)
+        self.assertEqual({name for name, _ in lent}, {name for name in calls_of_rattle() if name.endswith("_lent")})
+        for name, arguments in lent:
+            fields = [argument.removeprefix("s->") for argument in split(arguments) if argument.startswith("s->")]
+            parameters = [parameter.split()[0] for parameter in calls_of_rattle()[name][0]]
+            self.assertEqual(fields, parameters[: len(fields)], name)
+            self.assertTrue(set(fields).isdisjoint(parameters[len(fields) :]), name)
+
     def test_the_header(self) -> None:
         self.assertEqual(calls_of_the_header(), calls_of_rattle())
 

@@ -5,7 +5,8 @@ import unittest
 
 from believed import border, contract, file_of, modules_of_contract
 from declared import ROOT, text_of
-from letters import SUPPOSED, TO_THE_LETTER
+from letters import DEFINED
+from letters_of_pins import SAID, SUPPOSED
 from unused import without_comments
 
 # What each function at the border ensures, to the letter, and the files of specs that its names come from.
@@ -68,6 +69,9 @@ PINNED = {
         "( Each Worth nearly-least near strictly-least worth Near room limits m u some exact half rounded ( at-the-bound near-passes ) "
         ") ( Machine opens judges judges-alone sweeps reads reads-alone pages pages-alone shows tells closes machine ) in-table "
         "same-outcomes row-empty loss-around",
+    "laws/PinnedChains":
+        "byYear Figured own-weights entries right-hands loss-of-u loss-of-half-u figured ( by-year-bounded by-year-carried ( "
+        "by-year-worth by-year-rounding ) )",
     "laws/PinnedAmounts":
         "amount-taken ( upTo up-to-2^44 ( as-before opened-as-before row-as-before ) same-to-2^40 ( logarithm-to paid-step-to "
         "incurred-step-to last-ratio-to paid-sum-to incurred-sum-to own-side-of-phi-to own-side-of-psi-to ratios-to right-hand-to "
@@ -161,7 +165,7 @@ class Promises(unittest.TestCase):
             self.assertEqual(outline(text_of("crates/{}/specs/{}.antt".format(*file.split("/")))), names.split(), file)
 
     def test_what_is_said_to_the_letter(self) -> None:
-        for file, said in TO_THE_LETTER.items():
+        for file, said in (DEFINED | SAID).items():
             text = STRING.sub('""', without_comments(ROOT / "crates/{}/specs/{}.antt".format(*file.split("/"))))
             lines = " ".join(re.sub(r"\n(?=\S)|$", " | ", text).split())  # with a bar before whatever stands in no module, and at the end
             for words in said:

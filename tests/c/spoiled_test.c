@@ -31,6 +31,20 @@ static void expect_written_alike(const desk_session *s) {
     EXPECT(are_lines(page, number == 0 ? 28 * (2 * s->held[0] + 1) : 0));
 }
 
+/* Of a file with one of its fields spoiled, each of the checks 1 to 10 in turn, an open leaves every byte of the session. */
+static void expect_refused_files(desk_session *s, const uint8_t good[F_LENGTH]) {
+    static const struct { size_t at; uint8_t byte; uint64_t number, place; } SPOILED[] = {
+        {3, 0, 1, 0}, {4, 2, 2, 4}, {5, 0, 3, 5}, {5, 2, 4, 0}, {6, 1, 5, 6}, {10, 1, 6, 10},
+        {38, 1, 7, 38}, {34, 127, 8, 34}, {70, 1, 9, 70}, {85, 1, 10, 78},
+    };
+    for (size_t k = 0; k < sizeof SPOILED / sizeof SPOILED[0]; k++) {
+        uint8_t file[F_LENGTH];
+        memcpy(file, good, sizeof file);
+        file[SPOILED[k].at] = SPOILED[k].byte;
+        EXPECT_REFUSED(s, desk_open(s, file, sizeof file), SPOILED[k].number, SPOILED[k].place);
+    }
+}
+
 /* Every call on a session that no call has made: it answers, and changes nothing where it is refused. */
 static void expect_answers(desk_session *s) {
     static const uint64_t JUDGE[] = {21, 4, 0}, SWEEP[] = {21, 23, 0}, OPEN[] = {22, 0};
@@ -51,6 +65,7 @@ static void expect_answers(desk_session *s) {
     EXPECT(refusal.number == 0 || memcmp(&before, s, sizeof before) == 0);
     desk_close(s);
     EXPECT_REFUSED(s, desk_sweep(s, 1).refusal, 21, 0);
+    expect_refused_files(s, file);
     EXPECT_DONE(desk_open(s, file, sizeof file));
     expect_passed(judged(s, 10 * T, T, -T));
 }

@@ -1,5 +1,5 @@
 -- The sizes of an accepted file's observations, each drawn from the limits of the file's own fields, an amount's by its logarithm, and from
--- nothing wider. So its chain is bounded.
+-- nothing wider. So its chain is bounded; that it is carried comes from its weights.
 use Prim.Native.Nat.{ℕ, zero, suc, _+_, _*_, _-_, _≤_, _<_}
 use native.Mathlib.Nat.{le-trans}
 use native.Mathlib.Omega.{arith}

@@ -27,6 +27,7 @@
 --   Judged            passed exactly if every |residue| ≤ e·D
 --   Demand3           DEMAND 3, whole, for every chain that is carried, and so for every accepted file
 --   Pinned            demand 3 at its very limits, so that no statement of it can be weakened
+--   PinnedChains      demand 3 and the figures once more, of chains whose weights differ by accident year
 --   Diagonal          the matrix is symmetric, its diagonal positive
 --   Number16          what 1 to 10 let through has a positive diagonal; open answers alike with number 16 behind them, which no call gives
 --   Rows              a row that is shown is inside its file and has an amount
@@ -72,6 +73,7 @@ pub mod Rounding
 pub mod Judged
 pub mod Demand3
 pub mod Pinned
+pub mod PinnedChains
 pub mod Diagonal
 pub mod Number16
 pub mod Rows
