@@ -193,6 +193,18 @@ static inline const char *desk_refusal_text(uint64_t number) {
  * small would be written behind. */
 uint64_t desk_size(uint64_t array);
 
+/* Whether the library that is linked has the sessions of this header: 1, or 0, and then no call that is lent a session is safe. For a
+ * program that may meet a library of another version, before its first call. */
+static inline int desk_fits(void) {
+    const desk_session *none = NULL; /* for the sizes of its fields alone */
+    const size_t bytes[] = {sizeof none->held, sizeof none->own,   sizeof none->matrix,  sizeof none->right_hand, sizeof none->mean,
+                            sizeof none->ticks, sizeof none->weights, sizeof none->variances, 0};
+    for (size_t array = 0; array < sizeof bytes / sizeof bytes[0]; array++) {
+        if (desk_size(array) != bytes[array] / sizeof(uint64_t)) return 0;
+    }
+    return 1;
+}
+
 #ifdef __cplusplus
 }
 #endif

@@ -32,9 +32,7 @@ static void expect_fails(desk_judgement answer, uint64_t part) {
 static void test_sizes(void) {
     static const desk_session ZEROS;
     const desk_session s = DESK_EMPTY;
-    EXPECT(COUNT(s.held) == desk_size(0) && COUNT(s.own) == desk_size(1) && COUNT(s.matrix) == desk_size(2));
-    EXPECT(COUNT(s.right_hand) == desk_size(3) && COUNT(s.mean) == desk_size(4));
-    EXPECT(COUNT(s.ticks) == desk_size(5) && COUNT(s.weights) == desk_size(6) && COUNT(s.variances) == desk_size(7));
+    EXPECT(desk_fits() == 1);
     EXPECT(desk_size(8) == 0 && desk_size(UINT64_MAX) == 0);
     uint64_t numbers = 0;
     for (uint64_t array = 0; desk_size(array) != 0; array++) {

@@ -1,5 +1,5 @@
-/* What the header itself gives, without the library's code: the version, the words of refusals, and the empty session. Compiled as
- * C and as C++, and needs no library. */
+/* What the header itself gives, without the library's code: the version, the words of refusals, the empty session, and whether a library
+ * fits it. Compiled as C and as C++, and needs no library: here one stands in that tells sizes and has no calls. */
 #include "desk.h"
 
 #include <stdio.h>
@@ -49,11 +49,37 @@ static void test_empty_session(void) {
     EXPECT(is_empty(DESK_EMPTY_SESSION));
 }
 
+static uint64_t told[10]; /* by the library that stands in */
+
+uint64_t desk_size(uint64_t array) {
+    return array < sizeof told / sizeof told[0] ? told[array] : 0;
+}
+
+/* A library fits if each array has the header's size and there is no other; sizes that only add up to the same do not. */
+static void test_fits(void) {
+    static const uint64_t sizes[10] = {3, 31, 961, 31, 31, 303, 77, 31, 0, 0};
+    memcpy(told, sizes, sizeof told);
+    EXPECT(desk_fits() == 1);
+    for (size_t array = 0; array < 9; array++) {
+        memcpy(told, sizes, sizeof told);
+        told[array]++;
+        EXPECT(desk_fits() == 0);
+        told[array == 0 ? 1 : array - 1]--;
+        EXPECT(desk_fits() == 0);
+    }
+    for (size_t array = 0; array < 8; array++) { /* as a library that has fewer arrays tells them */
+        memcpy(told, sizes, sizeof told);
+        memset(told + array, 0, sizeof told - array * sizeof told[0]);
+        EXPECT(desk_fits() == 0);
+    }
+}
+
 int main(void) {
     static const uint8_t record[DESK_LONGEST_RECORD] = {0}, page[DESK_LONGEST_PAGE] = {0}, file[DESK_LONGEST_FILE] = {0};
     EXPECT(sizeof record == 129 && sizeof page == 868 && sizeof file == 2806);
     test_version();
     test_words();
     test_empty_session();
+    test_fits();
     return failed;
 }

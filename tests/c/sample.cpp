@@ -44,11 +44,8 @@ void expect_rows(const Bytes &file, std::uint64_t last) {
     expect(start == file.size(), "the rows end with the file");
 }
 
-// The struct that the header declares is as long as the library's arrays together.
 void expect_session_size() {
-    std::size_t numbers = 0;
-    for (std::uint64_t array = 0; desk_size(array) != 0; array++) numbers += desk_size(array);
-    expect(sizeof(desk_session) == 8 * numbers, "a session has the size that the library tells");
+    expect(desk_fits() == 1, "a session has the sizes that the library tells");
 }
 
 Bytes settled_record(desk_session *session) {
