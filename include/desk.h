@@ -5,7 +5,7 @@
  *     if (refusal.number != 0) printf("%s, at byte %u\n", desk_refusal_text(refusal.number), (unsigned)refusal.place);
  *
  * docs/SPECIFICATION.md says what each call does: "The file", "The mean record" and "The page" have the bytes, "The calls" the
- * answers, "Refusals" the numbers with their places, and "What is guaranteed" what an answer is worth.
+ * answers, "The central ultimate" its formula, "Refusals" the numbers with their places, and "What is guaranteed" what an answer is worth.
  *
  * A call does its job or is refused, whatever bytes it is lent and whatever stands in the session. A refused call changes
  * neither the session nor the buffer. The order in which a call tests the numbers is that of its comment below. The library
@@ -28,9 +28,9 @@
 extern "C" {
 #endif
 
-#define DESK_VERSION "2.0.0"
+#define DESK_VERSION "2.1.0"
 #define DESK_VERSION_MAJOR 2
-#define DESK_VERSION_MINOR 0
+#define DESK_VERSION_MINOR 1
 #define DESK_VERSION_PATCH 0
 
 #define DESK_PAID UINT64_C(0) /* the channels of a row */
@@ -89,6 +89,15 @@ typedef struct desk_shown {
     uint64_t length;
 } desk_shown;
 
+/* The central ultimate of an accident year, the logarithm of what it is expected to come to: floor + remainder / divisor ticks, of
+ * which a doubling has 1,048,576. The remainder is from 0 to divisor - 1, also where the floor is negative. All are 0 where refused. */
+typedef struct desk_projection {
+    desk_refusal refusal;
+    int64_t floor;
+    uint64_t remainder;
+    uint64_t divisor;
+} desk_projection;
+
 /* The figures of the open file: J, the closeness, and the own weights, matrix and right-hand side that a mean is judged by. The
  * parts are phi 0..J, then psi 0..J-1. The matrix has both of its halves, row k and column l at matrix[k][l]. Numbers outside
  * the parts 0..2J are 0, and all but the refusal are 0 where refused. */
@@ -112,6 +121,9 @@ desk_refusal desk_read_lent(const uint64_t held[3], const uint64_t own[31], cons
                             const int64_t right_hand[31], const int64_t mean[31], uint8_t *buffer, size_t length);
 desk_refusal desk_page_lent(const uint64_t held[3], const uint64_t own[31], const int64_t matrix[961],
                             const int64_t right_hand[31], const int64_t mean[31], uint8_t *buffer, size_t length);
+desk_projection desk_ultimate_lent(const uint64_t held[3], const uint64_t own[31], const int64_t matrix[961],
+                                   const int64_t right_hand[31], const int64_t mean[31], const int64_t ticks[303],
+                                   const uint64_t variances[31], uint64_t year);
 desk_system desk_figures_lent(const uint64_t held[3], const uint64_t own[31], const int64_t matrix[961],
                               const int64_t right_hand[31], const int64_t mean[31]);
 void desk_close_lent(uint64_t held[3]);
@@ -144,6 +156,12 @@ static inline desk_refusal desk_read(const desk_session *s, uint8_t *buffer, siz
  * untouched, so that no zero ends it. The session is untouched. May be refused with 21, then 24, then 13. */
 static inline desk_refusal desk_page(const desk_session *s, uint8_t *buffer, size_t length) {
     return desk_page_lent(s->held, s->own, s->matrix, s->right_hand, s->mean, buffer, length);
+}
+
+/* Gives the central ultimate of an accident year from 1 to J, by a mean that passes. The session is untouched.
+ * May be refused with 21, then 24, then 25. */
+static inline desk_projection desk_ultimate(const desk_session *s, uint64_t year) {
+    return desk_ultimate_lent(s->held, s->own, s->matrix, s->right_hand, s->mean, s->ticks, s->variances, year);
 }
 
 /* Shows the figures of the open file: a mean passes exactly if in each part k the sum of matrix[k][l] times part l, minus
@@ -184,6 +202,7 @@ static inline const char *desk_refusal_text(uint64_t number) {
     case 22: return "this session has a file open already";
     case 23: return "all 4,096 sweeps are run and the mean still does not pass";
     case 24: return "the mean that is held does not pass";
+    case 25: return "the accident year must be from 1 to J";
     default: return "no such refusal";
     }
 }

@@ -31,6 +31,10 @@ def call_page(size: int) -> bytes:
     return b"p" + number(size)
 
 
+def call_ultimate(year: int) -> bytes:
+    return b"u" + number(year)
+
+
 def call_row(lent: bytes, channel: int, year: int) -> bytes:
     return b"w" + string(lent) + number(channel) + number(year)
 
@@ -41,5 +45,5 @@ CLOSE = b"c"
 
 def one_of_each() -> Iterator[bytes]:
     """Every kind of call, once, on an empty session, which is empty again behind the last."""
-    yield from (call_open(b""), call_judge(b""), call_sweep(1), call_read(0), call_page(0))
+    yield from (call_open(b""), call_judge(b""), call_sweep(1), call_read(0), call_page(0), call_ultimate(1))
     yield from (FIGURES, call_row(b"", 0, 0), CLOSE)

@@ -13,6 +13,8 @@ import session
 from layout import File, Triangle
 from scales import TICKS_PER_DOUBLING
 
+TICK = log(2) / TICKS_PER_DOUBLING  # in natural logarithms
+
 # Table 2, in units of 0.0001 and of natural logarithms.
 SIGMA = (1393, 650, 731, 640, 264, 271, 405, 227, 494, 227)
 TAU = (633, 459, 415, 122, 83, 17, 19, 11, 6)
@@ -97,15 +99,20 @@ def reserves(file: File, mean: tuple[int, ...]) -> list[float]:
 
 
 def _ultimate(file: File, mean: tuple[int, ...], covariance: list[list[float]], year: int) -> float:
-    tick = log(2) / TICKS_PER_DOUBLING  # in natural logarithms
     shares = direction(file, year)
     beta = shares[-1]
-    sigma2 = tick**2 * sum(file.sigma2[file.last - year + 1:])
-    to_come = tick * sum(share * part for share, part in zip(shares, mean))
-    # A weight is 2^46 over squared ticks, so the matrix's inverse is a covariance in 2^46 squared ticks.
-    posterior_variance = 2**46 * tick**2 * _quadratic_form(covariance, shares)
+    to_come = TICK * sum(share * part for share, part in zip(shares, mean))
     seen = (1 - beta) * log(file.paid[year][-1]) + beta * log(file.incurred[year][-1])
-    return exp(seen + to_come + (1 - beta) * sigma2 / 2 + posterior_variance / 2)
+    return exp(seen + to_come + logarithm_variance(file, covariance, year) / 2)
+
+
+def logarithm_variance(file: File, covariance: list[list[float]], year: int) -> float:
+    """Of the logarithm of a year's ultimate."""
+    shares = direction(file, year)
+    sigma2 = TICK**2 * sum(file.sigma2[file.last - year + 1:])
+    # A weight is 2^46 over squared ticks, so the matrix's inverse is a covariance in 2^46 squared ticks.
+    posterior_variance = 2**46 * TICK**2 * _quadratic_form(covariance, shares)
+    return (1 - shares[-1]) * sigma2 + posterior_variance
 
 
 def direction(file: File, year: int) -> list[float]:

@@ -11,6 +11,7 @@ import session
 from chain import Figures
 from layout import Refusal
 from listing import refused_line
+from ultimate import Ultimate
 
 LONGEST_STRING = 4_096
 LENT_BYTE = b"\xa5"  # what a lent buffer is filled with
@@ -45,6 +46,8 @@ def _call(letter: bytes, script: BinaryIO, state: session.State) -> tuple[list[s
             return _lines_with_buffer(*session.read(state, LENT_BYTE * _length(script))), state
         case b"p":
             return _lines_with_buffer(*session.page(state, LENT_BYTE * _length(script))), state
+        case b"u":
+            return [_line(session.ultimate(state, _number(script)))], state
         case b"f":
             return _figures_lines(session.figures(state)), state
         case b"w":
@@ -72,6 +75,8 @@ def _line(answer: object) -> str:
             return "read"
         case session.Paged():
             return "page"
+        case Ultimate(floor, remainder):
+            return f"ultimate {floor} {remainder}"
     raise TypeError(f"not an answer: {answer!r}")
 
 

@@ -13,6 +13,7 @@ import chain
 import layout
 from layout import File, Refusal
 from page import build_page
+from ultimate import Ultimate, ultimate_of
 
 MOST_SWEEPS = 4_096
 Done = TypeVar("Done")  # the answer of a call that is not refused
@@ -147,6 +148,17 @@ def _at_the_front(
     if len(buffer) < len(written):
         return Refusal(13), buffer
     return done, written + buffer[len(written):]
+
+
+def ultimate(state: State, year: int) -> Ultimate | Refusal:
+    """21, 24, 25. By the mean that is held; the state is untouched."""
+    if state is EMPTY:
+        return Refusal(21)
+    if not state.passes():
+        return Refusal(24)
+    if not 1 <= year <= state.file.last:
+        return Refusal(25)
+    return ultimate_of(state.file, state.mean, year)
 
 
 def figures(state: State) -> chain.Figures | Refusal:

@@ -115,7 +115,7 @@ class Script(unittest.TestCase):
             + b"j" + string(build_record((10 * t + 1, t, -t)))
             + b"j" + string(build_record((10 * t, t + 1, -t)))
             + b"s" + struct.pack(">I", 1) + b"r" + struct.pack(">I", 18) + b"r" + struct.pack(">I", 2)
-            + b"p" + struct.pack(">I", 85) + b"p" + struct.pack(">I", 3) + b"f"
+            + b"p" + struct.pack(">I", 85) + b"p" + struct.pack(">I", 3) + b"u" + struct.pack(">I", 1) + b"u" + struct.pack(">I", 2) + b"f"
             + b"w" + string(F) + struct.pack(">II", 1, 0) + b"w" + string(F) + struct.pack(">II", 0, 2)
             + b"c" + b"f" + b"r" + struct.pack(">I", 0) + b"p" + struct.pack(">I", 1) + b"o" + string(build_file(samples.many_sweeps(2)))
             + b"s" + struct.pack(">I", 1) + b"p" + struct.pack(">I", 0) + b"c"
@@ -123,7 +123,7 @@ class Script(unittest.TestCase):
         self.assertEqual(answers(given), [
             "refused 21 at 0", "opened", "refused 22 at 0", "passed", "fails 1", "settled 0",
             "read", "buffer 000000110100a0000000100000fff00000a5", "refused 13 at 0", "buffer a5a5",
-            "page", f"buffer {PAGE_OF_F.hex()}a5", "refused 13 at 0", "buffer a5a5a5",
+            "page", f"buffer {PAGE_OF_F.hex()}a5", "refused 13 at 0", "buffer a5a5a5", "ultimate 11534336 0", "refused 25 at 0",
             "figures 1 1", "own 131073 65537 65537", "row 131073 0 0", "row 0 98305 -32768", "row 0 -32768 98305",
             "right 1374400020480 137440002048 -137440002048",
             "row 00000000000010000000000000000800", "refused 15 at 0",
@@ -150,7 +150,7 @@ class Script(unittest.TestCase):
             b"x", b"C", b"\n",
             b"o", b"o\0\0\0", b"o" + string(F)[:-1], b"o" + string(bytes(4_097)),
             b"j" + struct.pack(">I", 0xFFFF_FFFF), b"s\0\0\0", b"r" + struct.pack(">I", 4_097),
-            b"p", b"p\0\0\0", b"p" + struct.pack(">I", 4_097),
+            b"p", b"p\0\0\0", b"p" + struct.pack(">I", 4_097), b"u", b"u\0\0\0",
             b"w" + string(F), b"w" + string(F) + bytes(7),
         ):
             self.assertEqual(answers(b"c" + end), ["closed", "script"], end[:9])

@@ -1,4 +1,4 @@
-"""The machine: every call, every refusal, every order of refusals, and that a refusal changes nothing."""
+"""The machine: every call but the ultimate's, every refusal, every order of refusals, and that a refusal changes nothing."""
 
 import struct
 import unittest

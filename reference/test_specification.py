@@ -261,6 +261,21 @@ class Page(unittest.TestCase):
             self.assertEqual(place_of("28(2J+1)", last), page_length(last))
 
 
+class Ultimate(unittest.TestCase):
+    def test_of_f(self) -> None:
+        answer = session.ultimate(opened(1), 1)
+        self.assertEqual(answer.floor, 11 * T)
+        said = f"For F, accident year 1 has the floor 11T = {answer.floor:,} and the remainder {answer.remainder}."
+        self.assertIn(said, " ".join(TEXT.split()))
+
+    def test_refusals(self) -> None:
+        """In this order, and without a place."""
+        self.assertEqual([row[4::2] for row in rows(section("The calls"), 7) if row[3] == "`u`"], [["year", "21, 24, 25"]])
+        self.assertEqual([row[2] for row in rows(section("Refusals"), 3) if row[0] == "25"], ["0"])
+        for state, year, number in ((session.EMPTY, 0, 21), (opened(1), 0, 25), (opened(1), 2, 25)):
+            self.assertEqual(session.ultimate(state, year), layout.Refusal(number, 0))
+
+
 class Closeness(unittest.TestCase):
     """In money: the reserves of the sample, at the settled mean and with every part of the exact mean moved by e."""
 

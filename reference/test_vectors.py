@@ -25,11 +25,19 @@ class Made(unittest.TestCase):
     def test_every_refusal_number_is_in_the_script(self) -> None:
         lines = self.made["calls/scenes"].printed.decode().splitlines()
         numbers = {int(line.split()[1]) for line in lines if line.startswith("refused")}
-        self.assertEqual(numbers, {*range(1, 16), 21, 22, 23, 24})
+        self.assertEqual(numbers, {*range(1, 16), *range(21, 26)})
         self.assertNotIn("script", lines)
 
     def test_some_hundred_sessions(self) -> None:
         self.assertGreater(self.made["calls/scenes"].printed.count(b"opened\n"), 100)
+
+    def test_ultimates(self) -> None:
+        """In the script of scenes those of F and of drawn sessions; besides, scripts of their own."""
+        lines = [line for line in self.made["calls/scenes"].printed.decode().splitlines() if line.startswith("ultimate")]
+        self.assertIn("ultimate 11534336 0", lines)
+        self.assertGreater(len(set(lines)), 50)
+        own = sum(vector.printed.count(b"ultimate ") for name, vector in self.made.items() if name.startswith("script/ultimate-"))
+        self.assertGreater(own, 400)
 
     def test_listings(self) -> None:
         self.assertEqual(self.listing("f")[1], "sweeps 0")
@@ -106,7 +114,7 @@ class Made(unittest.TestCase):
             self.assertEqual(vectors.paths(f"{program}/tables-256"), kept)
 
     def test_small_enough_to_keep(self) -> None:
-        self.assertLess(sum(map(len, vectors.files_of(self.made).values())), 1_600_000)
+        self.assertLess(sum(map(len, vectors.files_of(self.made).values())), 1_700_000)
 
     def test_made_again_they_are_the_same(self) -> None:
         self.assertEqual(vectors.make(vectors.DEFAULT_SEED), self.made)

@@ -2,7 +2,7 @@
 
     listing/NAME       a file, and what the listing prints for it
     board_page/NAME    a file, and the page that is printed for it
-    script/NAME        a script of calls that ends early, and what is printed before it does
+    script/NAME        a script of calls that ends early or asks for ultimates, and what is printed for it
     calls/scenes       a script of calls, and its answers
 
 Each is kept as vectors/NAME.in and NAME.out, but for those of ELSEWHERE; an input that the listing has too is kept with the listing.
@@ -18,6 +18,7 @@ import samples
 import script
 import vectors_calls
 import vectors_listing
+import vectors_ultimate
 from board_page import board_page
 from listing import listing
 from vectors_board_page import OF_THE_LISTING, board_page_inputs
@@ -49,7 +50,7 @@ def make(seed: int) -> Vectors:
     return {
         **_printed("listing", vectors_listing.listing_inputs(seed)),
         **_printed("board_page", board_page_inputs(seed)),
-        **_scripts("script", vectors_calls.script_ends()),
+        **_scripts("script", vectors_calls.script_ends() | vectors_ultimate.scripts()),
         **_scripts("calls", {"scenes": vectors_calls.script_of_scenes(seed)}),
     }
 

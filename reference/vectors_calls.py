@@ -12,7 +12,7 @@ import session
 import vectors_amounts
 import vectors_flat_priors
 from call_bytes import (
-    CLOSE, FIGURES, call_judge, call_open, call_page, call_read, call_row, call_sweep, number, string,
+    CLOSE, FIGURES, call_judge, call_open, call_page, call_read, call_row, call_sweep, call_ultimate, number, string,
 )
 from damage import (
     SPOIL_FILE, SPOIL_RECORD, drawn_damage, drawn_file_damage, fields_of, pairs_of_spoils, put,
@@ -87,6 +87,7 @@ def script_ends() -> dict[str, bytes]:
         "page-4096": call_open(f) + call_page(LONGEST_STRING),
         "page-4097": call_open(f) + call_page(LONGEST_STRING + 1) + CLOSE,
         "end-in-page": call_open(f) + call_page(page_length(1))[:-1],
+        "end-in-ultimate": call_open(f) + call_ultimate(1) + call_ultimate(1)[:-1],
     }
 
 
@@ -94,12 +95,12 @@ def script_ends() -> dict[str, bytes]:
 
 
 def figures_of_document() -> Iterator[bytes]:
-    """File F: the means that the specification judges, its two refusals, its reading and its page."""
+    """File F: the means that the specification judges, its two refusals, its reading, its page and its ultimate."""
     means = [(10 * T, T, -T), (10 * T + 1, T, -T), (10 * T + 2, T, -T), (10 * T, T + 1, -T)]
     for closeness in (1, 2):
         yield from (call_open(build_file(samples.file_f(closeness))), FIGURES)
         yield from (call_judge(build_record(mean)) for mean in means)
-        yield from (call_sweep(1), call_read(record_length(1)), call_page(page_length(1)), CLOSE)
+        yield from (call_sweep(1), call_read(record_length(1)), call_page(page_length(1)), call_ultimate(1), CLOSE)
     f = build_file(samples.file_f())
     yield call_open(put(f, 86, 0, 8))
     yield call_open(put(f, 102, 1 << 12, 8))
@@ -111,19 +112,20 @@ def logarithms_shown() -> Iterator[bytes]:
 
 
 def state_refusals() -> Iterator[bytes]:
-    """21, 22 and 24, alone and where an input check would refuse too."""
+    """21, 22 and 24, alone and where an input check or 25 would refuse too."""
     f, going = build_file(samples.file_f()), build_file(samples.many_sweeps(2))
     record = build_record((0, 0, 0))
     for _ in range(2):  # again after a close: a closed session is as empty as a new one
         yield from (call_judge(record), call_judge(b""), call_sweep(1), call_sweep(0))
-        yield from (call_read(17), call_read(0), call_page(84), call_page(0), FIGURES, CLOSE)
+        yield from (call_read(17), call_read(0), call_page(84), call_page(0), call_ultimate(1), call_ultimate(0), FIGURES, CLOSE)
     yield from (call_open(f), call_open(f), call_open(b""), call_open(SPOIL_FILE[9](f)), call_open(going))
-    yield from (call_sweep(4_096), call_read(17), call_page(84), CLOSE)
+    yield from (call_sweep(4_096), call_read(17), call_page(84), call_ultimate(1), CLOSE)
     yield from (call_open(b""), call_judge(record), FIGURES)  # a refused open opens nothing
     record_size, page_size = record_length(2), page_length(2)
     reads = map(call_read, (0, record_size - 1, record_size))
     writes = (*reads, *map(call_page, (0, page_size - 1, page_size)))  # 24, and behind the sweeps 13 where it is too short
-    yield from (call_open(going), *writes, call_sweep(4_096), *writes, CLOSE, CLOSE)
+    asked = (*writes, *map(call_ultimate, range(4)))  # 24 too, and behind the sweeps 25 for years 0 and 3
+    yield from (call_open(going), *asked, call_sweep(4_096), *asked, CLOSE, CLOSE)
 
 
 def sweep_numbers() -> Iterator[bytes]:
@@ -241,7 +243,7 @@ def row_refusals() -> Iterator[bytes]:
 
 
 def settle_and_read(rng: Random, file: File) -> Iterator[bytes]:
-    """One J: some sweeps, judging near the mean, all sweeps, reading and paging into buffers of every kind."""
+    """One J: some sweeps, judging near the mean, all sweeps, reading and paging into buffers of every kind, the ultimate of every year."""
     size, page_size = record_length(file.last), page_length(file.last)
     mean = swept(file, session.MOST_SWEEPS)
     yield from (call_open(build_file(file)), call_sweep(1), call_judge(build_record(swept(file, 1))))
@@ -251,6 +253,7 @@ def settle_and_read(rng: Random, file: File) -> Iterator[bytes]:
     yield from (call_sweep(rng.randint(1, 4_096)), call_sweep(4_096))
     yield from map(call_read, (0, size - 1, size, size + 1, size + rng.randint(2, 40)))
     yield from map(call_page, (0, page_size - 1, page_size, page_size + rng.randint(2, 40)))
+    yield from map(call_ultimate, range(file.last + 2))
     wider = replace(file, closeness=65_536)
     yield from (CLOSE, call_open(build_file(wider)), call_sweep(4_096), call_read(size), CLOSE)
 
@@ -325,7 +328,7 @@ def drawn_session(rng: Random, draw: Callable[[Random, int], File] = samples.dra
 
 def _drawn_call(rng: Random, file: File, mean: tuple[int, ...]) -> bytes:
     lent, size, page_size = build_file(file), record_length(file.last), page_length(file.last)
-    match rng.choices("ojsrpfwcnd", (2, 12, 12, 8, 4, 1, 2, 1, 2, 3))[0]:
+    match rng.choices("ojsrpufwcnd", (2, 12, 12, 8, 4, 5, 1, 2, 1, 2, 3))[0]:
         case "o":
             return call_open(lent)
         case "j":
@@ -337,6 +340,10 @@ def _drawn_call(rng: Random, file: File, mean: tuple[int, ...]) -> bytes:
             return call_read(rng.choice((size - 1, size, size, size + 1, rng.randint(0, 150))))
         case "p":
             return call_page(rng.choice((page_size - 1, page_size, page_size, page_size + 1, rng.randint(0, 900))))
+        case "u":
+            year = rng.randint(1, file.last)
+            before = rng.choice((b"", call_sweep(4_096)))  # without which few means pass
+            return before + call_ultimate(rng.choice((year, year, year, 0, file.last + 1, rng.getrandbits(32))))
         case "f":
             return FIGURES
         case "w":

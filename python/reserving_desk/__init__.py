@@ -7,13 +7,14 @@
         if desk.sweep().settled:
             mean = desk.read()
             print(desk.page(), end="")
+            print(desk.ultimate(1).ticks)
 
 A file is bytes; `file_of` makes one from plain numbers, and `cell_place` tells where an amount stands in it. A call that is refused
 raises `Refused`, which tells the desk's number and place, what the number means, the field, the number that stood there and what is
 allowed. Parts of a mean are ticks: a doubling has 1,048,576. docs/SPECIFICATION.md says what each call answers.
 """
 
-from .answers import Figures, Judgement, Sweeping
+from .answers import Figures, Judgement, Sweeping, Ultimate
 from .builders import Prior, file_of, flat_prior, record_of
 from .layout import INCURRED, MOST_SWEEPS, PAID, Mean, cell_place
 from .library import LibraryMissing, SizesDiffer
@@ -21,10 +22,10 @@ from .refusals import Refused
 from .scales import TICKS_PER_DOUBLING, natural_log, squared_ticks, ticks
 from .session import Session
 
-__version__ = "2.0.0"
+__version__ = "2.1.0"
 
 __all__ = [
     "INCURRED", "MOST_SWEEPS", "PAID", "TICKS_PER_DOUBLING",
-    "Figures", "Judgement", "LibraryMissing", "Mean", "Prior", "Refused", "Session", "SizesDiffer", "Sweeping",
+    "Figures", "Judgement", "LibraryMissing", "Mean", "Prior", "Refused", "Session", "SizesDiffer", "Sweeping", "Ultimate",
     "cell_place", "file_of", "flat_prior", "natural_log", "record_of", "squared_ticks", "ticks",
 ]

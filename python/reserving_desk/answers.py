@@ -3,7 +3,10 @@
 from __future__ import annotations
 
 from dataclasses import dataclass
+from fractions import Fraction
 from typing import Optional
+
+from . import scales
 
 
 @dataclass(frozen=True)
@@ -26,6 +29,28 @@ class Sweeping:
 
     def __bool__(self) -> bool:
         return self.settled
+
+
+@dataclass(frozen=True)
+class Ultimate:
+    """The central ultimate of an accident year: the logarithm of what it is expected to come to, exact.
+
+    It is `floor` + `remainder` / `divisor` ticks, the remainder from 0 to the divisor less 1. Where it is left as a logarithm it has no
+    error; `exp` of the natural one is the median of the ultimate, in floats, and in the unit of the file's amounts.
+    """
+
+    floor: int
+    remainder: int
+    divisor: int
+
+    @property
+    def ticks(self) -> Fraction:
+        """All of it, as one fraction."""
+        return self.floor + Fraction(self.remainder, self.divisor)
+
+    @property
+    def natural_log(self) -> float:
+        return scales.natural_log(self.ticks)
 
 
 @dataclass(frozen=True)

@@ -69,6 +69,12 @@ def refused_buffer(refusal: Refusal, size: int, thing: str, length: Callable[[in
     return Refused(refusal.number, refusal.place, *details)
 
 
+def refused_ultimate(refusal: Refusal, year: int, last: int) -> Refused:
+    """Of a session whose J is `last`."""
+    details = _outside("accident year", year, f"{limits(1, last)}, as J is {last}") if refusal.number == 25 else Details()
+    return Refused(refusal.number, refusal.place, *details)
+
+
 def refused_row(refusal: Refusal, file: bytes, channel: int, year: int) -> Refused:
     if refusal.number == 14:
         return Refused(14, refusal.place, *_outside("channel", channel, f"{PAID} and {INCURRED}"))

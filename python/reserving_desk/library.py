@@ -49,6 +49,10 @@ class Shown(Structure):
     _fields_ = [("refusal", Refusal), ("start", c_uint64), ("length", c_uint64)]
 
 
+class Projected(Structure):
+    _fields_ = [("refusal", Refusal), ("floor", c_int64), ("remainder", c_uint64), ("divisor", c_uint64)]
+
+
 class System(Structure):
     """The figures of the open file: row k, column l of the matrix at 31·k + l."""
 
@@ -59,7 +63,9 @@ class System(Structure):
 
 
 SESSION: list[Any] = [POINTER(field) for field in SESSION_FIELDS.values()]
-HELD = SESSION[:5]  # without the observations, which are open's alone
+HELD = SESSION[:5]  # without the observations, which are open's, and ultimate's as far as it reads them
+LATEST_FIELDS = ("ticks", "variances")
+LATEST: list[Any] = [POINTER(SESSION_FIELDS[name]) for name in LATEST_FIELDS]
 LENT: list[Any] = [c_char_p, c_size_t]
 BUFFER: list[Any] = [POINTER(c_uint8), c_size_t]
 
@@ -70,6 +76,7 @@ FUNCTIONS: dict[str, tuple[Any, list[Any]]] = {
     "desk_sweep_lent": (Swept, HELD + [c_uint64]),
     "desk_read_lent": (Refusal, HELD + BUFFER),
     "desk_page_lent": (Refusal, HELD + BUFFER),
+    "desk_ultimate_lent": (Projected, HELD + LATEST + [c_uint64]),
     "desk_figures_lent": (System, HELD),
     "desk_row": (Shown, LENT + [c_uint64, c_uint64]),
     "desk_close_lent": (None, SESSION[:1]),

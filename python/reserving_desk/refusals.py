@@ -24,6 +24,7 @@ WORDS = {
     22: "this session has a file open already",
     23: "all 4,096 sweeps are run and the mean still does not pass",
     24: "the mean that is held does not pass",
+    25: "the accident year must be from 1 to J",
 }
 
 

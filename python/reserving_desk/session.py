@@ -8,13 +8,18 @@ from ctypes import Array, c_uint8
 from types import TracebackType
 from typing import Any, NoReturn, Optional, SupportsIndex
 
-from .answers import Figures, Judgement, Sweeping
+from .answers import Figures, Judgement, Sweeping, Ultimate
 from .arguments import Buffer, BytesLike, lent_bytes, not_negative, whole, writable_view
-from .details import refused_buffer, refused_file, refused_record, refused_row, refused_state, refused_sweep
+from .details import refused_buffer, refused_file, refused_record, refused_row, refused_state, refused_sweep, refused_ultimate
 from .layout import AMOUNT, LONGEST_PAGE, LONGEST_RECORD, MOST_SWEEPS, Mean, mean_of, page_length, record_length
-from .library import HELD, ROW_LENGTH, SESSION_FIELDS, library_path, load
+from .library import HELD, LATEST_FIELDS, ROW_LENGTH, SESSION_FIELDS, library_path, load
 
 LARGEST_NUMBER = (1 << 64) - 1  # that the library can be handed
+
+
+def _handed(number: int) -> int:
+    """Beyond what the library can be handed the answer is the same as at its limits."""
+    return min(max(number, 0), LARGEST_NUMBER)
 
 
 class Session:
@@ -53,10 +58,8 @@ class Session:
     def sweep(self, n: int = MOST_SWEEPS) -> Sweeping:
         """Runs up to n sweeps, until the mean passes or the total is 4,096. Refused with 21, 12, 23."""
         wanted = whole("n", n)
-        # Beyond what the library can be handed the answer is the same as at its limits.
-        within = min(max(wanted, 0), LARGEST_NUMBER)
         with self._one_at_a_time:
-            swept = self._library.desk_sweep_lent(*self._held(), within)
+            swept = self._library.desk_sweep_lent(*self._held(), _handed(wanted))
         if swept.refusal.number:
             raise refused_sweep(swept.refusal, wanted)
         return Sweeping(bool(swept.settled), swept.total)
@@ -83,6 +86,22 @@ class Session:
     def page_into(self, buffer: Buffer) -> None:
         """Writes the page of the mean at the front of a buffer; the bytes behind are untouched. Refused with 21, 24, 13."""
         self._write(self._library.desk_page_lent, buffer, "page", page_length)
+
+    def ultimate(self, year: int) -> Ultimate:
+        """The central ultimate of an accident year from 1 to J, by the mean that is held, which passes.
+
+            print(exp(desk.ultimate(1).natural_log))
+
+        is what accident year 1 comes to in the median. Refused with 21, 24, 25.
+        """
+        wanted = whole("year", year)
+        with self._one_at_a_time:
+            latest = (self._fields[list(SESSION_FIELDS).index(name)] for name in LATEST_FIELDS)
+            found = self._library.desk_ultimate_lent(*self._held(), *latest, _handed(wanted))
+            last = self._last()
+        if found.refusal.number:
+            raise refused_ultimate(found.refusal, wanted, last)
+        return Ultimate(found.floor, found.remainder, found.divisor)
 
     def figures(self) -> Figures:
         """The linear system that judges every mean of the open file, for a solver of one's own.
@@ -135,7 +154,7 @@ class Session:
             raise refused_buffer(refusal, size, thing, length, last)
 
     def _held(self) -> tuple[Array[Any], ...]:
-        """What every call but `open` is lent: all but the observations."""
+        """What every call is lent that is lent a session: all but the observations."""
         return self._fields[:len(HELD)]
 
     def _last(self) -> int:

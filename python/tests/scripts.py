@@ -52,6 +52,9 @@ def _answer(letter: bytes, source: BytesIO, session: Session, buffer: bytearray)
         answer, write = WRITING[letter]
         write(session, buffer)
         return answer
+    if letter == b"u":
+        ultimate = session.ultimate(_number(source))
+        return f"ultimate {ultimate.floor} {ultimate.remainder}"
     if letter == b"f":
         return _system(session.figures())
     if letter == b"w":

@@ -6,6 +6,7 @@ use crate::printing::print_open;
 use crate::printing::print_refusal;
 use crate::printing::print_script;
 use crate::printing::print_sweep;
+use crate::printing::print_ultimate;
 use crate::printing::print_write;
 use crate::reading::read_length;
 use crate::reading::read_number;
@@ -24,6 +25,7 @@ use session::calls::open;
 use session::calls::page;
 use session::calls::read;
 use session::calls::sweep;
+use session::calls::ultimate;
 use session::state::empty;
 
 mod printing;
@@ -112,6 +114,17 @@ fn run_writing(s: Session, letter: u8) -> Step {
     }
 }
 
+fn run_ultimate(s: Session) -> Step {
+    let Field::Value(year) = read_number() else {
+        return script_ends(s);
+    };
+    let answer = ultimate(s, year);
+    Step {
+        session: s,
+        goes_on: print_ultimate(answer),
+    }
+}
+
 fn print_row(file: &[u8], channel: usize, year: usize) -> bool {
     let told = row_told(file, channel, year);
     match told {
@@ -162,6 +175,7 @@ fn run(s: Session, letter: u8) -> Step {
         b'j' => run_judge(s),
         b's' => run_sweep(s),
         b'r' | b'p' => run_writing(s, letter),
+        b'u' => run_ultimate(s),
         b'f' => run_figures(s),
         b'w' => run_row(s),
         b'c' => run_close(s),

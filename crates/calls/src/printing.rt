@@ -5,10 +5,12 @@ ghost use lib.ListN.{length, take};
 ghost use Rattle.io.specs.Counts.{Counts};
 ghost use Rattle.io.specs.Digits.{glyph};
 ghost use Rattle.calls.specs.Hex.{hexOf};
+use chain::judge::size;
 use libc::STDOUT_FILENO;
 use session::answers::JudgeAnswer;
 use session::answers::OpenAnswer;
 use session::answers::SweepAnswer;
+use session::answers::UltimateAnswer;
 use session::answers::WriteAnswer;
 
 pub fn print(text: &[u8]) -> bool {
@@ -18,6 +20,14 @@ pub fn print(text: &[u8]) -> bool {
 // A name and a number.
 pub fn print_count(name: &[u8], n: u64) -> bool {
     print(name) && io::print_decimal(STDOUT_FILENO, n) && print(b"\n")
+}
+
+// A space and a number.
+pub fn print_signed(z: i64) -> bool {
+    if z < 0 {
+        return print(b" -") && io::print_decimal(STDOUT_FILENO, size(z));
+    }
+    print(b" ") && io::print_decimal(STDOUT_FILENO, size(z))
 }
 
 pub fn print_refusal(number: u64, place: usize) -> bool {
@@ -54,6 +64,15 @@ pub fn print_write(said: &[u8], answer: WriteAnswer) -> bool {
     match answer {
         WriteAnswer::Written => print(said),
         WriteAnswer::Refused(number, place) => print_refusal(number, place),
+    }
+}
+
+pub fn print_ultimate(answer: UltimateAnswer) -> bool {
+    match answer {
+        UltimateAnswer::Central(found) => {
+            print(b"ultimate") && print_signed(found.floor) && print_count(b" ", found.remainder)
+        }
+        UltimateAnswer::Refused(number, place) => print_refusal(number, place),
     }
 }
 

@@ -4,8 +4,8 @@ ghost use Prim.Native.Nat.{_≤_};
 use crate::printing::print;
 use crate::printing::print_count;
 use crate::printing::print_refusal;
+use crate::printing::print_signed;
 use chain::arrays::Figures;
-use chain::judge::size;
 use libc::STDOUT_FILENO;
 use session::answers::FiguresAnswer;
 use session::answers::Showing;
@@ -22,13 +22,6 @@ fn print_weights(weights: &[u64]) -> bool {
         k += 1;
     }
     print(b"\n")
-}
-
-fn print_signed(z: i64) -> bool {
-    if z < 0 {
-        return print(b" -") && io::print_decimal(STDOUT_FILENO, size(z));
-    }
-    print(b" ") && io::print_decimal(STDOUT_FILENO, size(z))
 }
 
 fn print_numbers(name: &[u8], numbers: &[i64]) -> bool {

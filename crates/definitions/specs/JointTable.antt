@@ -1,12 +1,12 @@
 -- The specification's examples that document 01 marks with a star ("Figures to agree on"), the page and the listing of F, F without
--- priors, and F with the largest amounts, together, computed from the definitions.
+-- priors, F with the largest amounts, and central ultimates, together, computed from the definitions.
 use Prim.Native.Nat.{ℕ, _+_, _^_}
 use mathlib.Core.Path.{_≡_, refl}
 use mathlib.Core.Bool.{true}
 use mathlib.Core.List.{List, [], _∷_, _++_}
 use lib.IntN.{ℤ, pos, negsuc}
 use lib.Count.{leadingZeros}
-use lib.ListN.{replicate}
+use lib.ListN.{replicate, getD}
 use Rattle.integers.specs.Summation.{sum, total}
 use Rattle.definitions.specs.Words.{tabFrom, part}
 use Rattle.definitions.specs.Logarithm.{logarithm, halfTicks, bitsOf, highestBit, startFrom, nextBit, nextY}
@@ -18,7 +18,9 @@ use Rattle.definitions.specs.Observations.{Chain, chainOf, ratioVariance
 use Rattle.definitions.specs.Matrix.{Φ, Ψ, Figures, figuresFrom, figuresOf, partOf, own, matrix, rightHand, residue, passed, fails, judgement, judgeFrom}
 use Rattle.definitions.specs.Text.{ascii, decimalFrom, signedDecimal, aligned, nameOf, indexOf, lines}
 use Rattle.definitions.specs.Page.{pageLine, pageOf}
-use Rattle.definitions.specs.Machine.{refused, written, State, empty, holds, mapState, Outcome, theFile, openCall, sweepCall, writeCall, pageCall}
+use Rattle.definitions.specs.Ultimate.{Latest, latestOf, Ultimate, paidVariance, incurredVariance, paidUltimate, incurredUltimate, ultimateOf}
+use Rattle.definitions.specs.Machine.{Answer, refused, written, ultimate-is, State, empty, holds, mapState, Outcome, theFile}
+use Rattle.definitions.specs.Machine.{openCall, sweepCall, writeCall, pageCall, ultimateCall}
 use Rattle.definitions.specs.Kept.{observedOf}
 use Rattle.definitions.specs.Programs.{partLine, sweepText, openText, programText, listed, listing, boardPage}
 
@@ -108,6 +110,26 @@ residues μ = tabFrom 0 3 (residue F (part μ))
 -- the call `page`, lent so many bytes
 abbrev pageOfF : State Figures → ℕ → Outcome Figures
 pageOfF st size = pageCall (λ G. G) st (replicate size 165)
+
+abbrev ticks : ℤ → ℕ → ℕ → Ultimate
+ticks floor remainder divisor = record { floor = floor; remainder = remainder; divisor = divisor }
+
+-- the call `ultimate`
+abbrev ultimateOfF : State Bytes → ℕ → Answer
+ultimateOfF = ultimateCall figuresOf latestOf
+
+-- J = 2, every number another: the latest logarithms of years 1 and 2, and the variances
+abbrev smallLatest : Latest
+smallLatest = record {
+  logPaid = part (pos 1000 ∷ pos 11 ∷ pos 17 ∷ []);
+  logIncurred = part (pos 2000 ∷ pos 13 ∷ pos 19 ∷ []);
+  σ² = λ m. getD (1 ∷ 2 ∷ 3 ∷ []) m 0;
+  τ² = λ n. getD (5 ∷ 7 ∷ []) n 0;
+}
+
+-- Φ_0, Φ_1, Φ_2, Ψ_0, Ψ_1
+abbrev smallMean : List ℤ
+smallMean = pos 100 ∷ pos 20 ∷ negsuc 29 ∷ pos 4 ∷ negsuc 49 ∷ []
 
 pub record JointTable : Type 0 where
   pub log-of-1 : logarithm 1 ≡ 0
@@ -209,13 +231,24 @@ pub record JointTable : Type 0 where
   pub incurred-last-above : fileCheck (amountsF 1-in-8 2^44-in-8 1-in-8 1-in-8 above-2^44-in-8) ≡ refuses 9 110
   -- and so is 0
   pub amount-0 : fileCheck (amountsF 1-in-8 2^44-in-8 0-in-8 1-in-8 1-in-8) ≡ refuses 9 86
+  -- document 02, the central ultimate of F's year 1: 11T, and 11T and a half where Φ_1 is one tick more
+  pub F-ultimate : ultimateOfF (holds (fileF 1) (mean 0 0) 0) 1 ≡ ultimate-is (ticks (pos 11534336) 0 2147483648)
+  pub F-ultimate-half : ultimateOfF (holds (fileF 2) (mean 0 1) 0) 1 ≡ ultimate-is (ticks (pos 11534336) 1073741824 2147483648)
+  -- 21, 24, 25
+  pub F-ultimate-closed : ultimateOfF empty 0 ≡ refused 21 0
+  pub F-ultimate-failing : ultimateOfF (holds (fileF 1) (mean 2 0) 0) 0 ≡ refused 24 0
+  pub F-ultimate-year-0 : ultimateOfF (holds (fileF 1) (mean 0 0) 0) 0 ≡ refused 25 0
+  pub F-ultimate-year-2 : ultimateOfF (holds (fileF 1) (mean 0 0) 0) 2 ≡ refused 25 0
+  -- 7·(11 − 30) + 3·(13 − 50) over 3 + 7, and 12·(17 + 20 − 30) + 5·(19 + 4 − 50) over 5 + 12: rounded down, not toward 0
+  pub small-ultimate-1 : ultimateOf 2 smallLatest 1 (part smallMean) ≡ ticks (negsuc 24) 6 10
+  pub small-ultimate-2 : ultimateOf 2 smallLatest 2 (part smallMean) ≡ ticks (negsuc 2) 0 17
 
 pub jointTable : JointTable
 unfolding leadingZeros sum total tabFrom logarithm halfTicks bitsOf highestBit startFrom nextBit nextY weight bigEndian unsigned
     twosComplement rowStart fields check1 check2 check3 check4 check5 check6 check7 check8 check9 check10 fileCheck
     ratioVariance paidStep incurredStep lastRatio figuresFrom partOf own matrix rightHand residue judgeFrom
     ascii decimalFrom signedDecimal aligned nameOf indexOf lines pageLine partLine openCall sweepCall writeCall
-    sweepText openText programText listed
+    sweepText openText programText listed paidVariance incurredVariance paidUltimate incurredUltimate ultimateOf ultimateCall
 jointTable = record {
   log-of-1 = refl;
   log-of-2^40 = refl;
@@ -269,4 +302,12 @@ jointTable = record {
   incurred-first-above = refl;
   incurred-last-above = refl;
   amount-0 = refl;
+  F-ultimate = refl;
+  F-ultimate-half = refl;
+  F-ultimate-closed = refl;
+  F-ultimate-failing = refl;
+  F-ultimate-year-0 = refl;
+  F-ultimate-year-2 = refl;
+  small-ultimate-1 = refl;
+  small-ultimate-2 = refl;
 }

@@ -11,6 +11,7 @@
 --   Sweep          one step, one sweep, the sweeps of a call
 --   Text           numbers in base ten, aligned; the names of the parts
 --   Page           the page of a mean and its own weights
+--   Ultimate       the central ultimate of an accident year: floor, remainder and divisor
 --   Machine        the session machine: each call's answer, and state and buffer afterwards
 --   Kept           what a session keeps of a file in the file's place
 --   Programs       what the programs print: the listing, and the page of a settled mean
@@ -32,6 +33,7 @@ pub mod Matrix
 pub mod Sweep
 pub mod Text
 pub mod Page
+pub mod Ultimate
 pub mod Machine
 pub mod Kept
 pub mod Programs

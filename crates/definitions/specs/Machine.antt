@@ -12,6 +12,7 @@ use Rattle.definitions.specs.Refusals.{Check, clear, refuses, fileCheck,
 use Rattle.definitions.specs.Matrix.{Figures, figuresOf, Judgement, judgement, passes}
 use Rattle.definitions.specs.Sweep.{Swept, sweeps, sweepLimit}
 use Rattle.definitions.specs.Page.{pageOf, pageLength}
+use Rattle.definitions.specs.Ultimate.{Latest, latestOf, Ultimate, ultimateOf}
 
 -- ---- calls, answers, states
 
@@ -21,6 +22,7 @@ pub data Call : Type 0 where
   sweep : (n : ℕ) → Call
   read : (buffer : Bytes) → Call
   page : (buffer : Bytes) → Call
+  ultimate : (year : ℕ) → Call
   row : (file : Bytes) (channel year : ℕ) → Call
   row-told : (file : Bytes) (channel year : ℕ) → Call
   close : Call
@@ -32,6 +34,7 @@ pub data Answer : Type 0 where
   settled : (total : ℕ) → Answer
   going : (total : ℕ) → Answer
   written : Answer
+  ultimate-is : Ultimate → Answer
   part-shown : Bytes → Answer
   row-is-shown : Answer
   closed : Answer
@@ -55,6 +58,7 @@ pub record Keeping (X : Type 0) : Type 0 where
   pub keep : Bytes → X
   pub figures : X → Figures
   pub priorMeans : X → List ℤ
+  pub latest : X → Latest
 
 -- the buffer is the one that `read` or `page` was lent, and no byte for any other call
 pub record Outcome (X : Type 0) : Type 0 where
@@ -127,6 +131,16 @@ module _ {X : Type 0} (figures : X → Figures) where
   abbrev pub pageCall : State X → Bytes → Outcome X
   pageCall = writeCall pageLength pageIn
 
+-- ---- ultimate, which uses the latest amounts besides
+
+-- 21, 24, 25
+unfoldable pub ultimateCall : {X : Type 0} → (X → Figures) → (X → Latest) → State X → ℕ → Answer
+ultimateCall figures latest empty year = refused 21 0
+ultimateCall figures latest (holds x μ total) year =
+    cond (not (passes (figures x) (part μ))) (refused 24 0)
+    (cond (not (within 1 (figures x .last) year)) (refused 25 0)
+    (ultimate-is (ultimateOf (figures x .last) (latest x) year (part μ))))
+
 -- ---- all calls, over what is kept
 
 module _ {X : Type 0} (K : Keeping X) where
@@ -145,6 +159,7 @@ module _ {X : Type 0} (K : Keeping X) where
   outcome st (sweep n) = sweepCall (K .figures) st n
   outcome st (read b) = readCall (K .figures) st b
   outcome st (page b) = pageCall (K .figures) st b
+  outcome st (ultimate year) = answers st (ultimateCall (K .figures) (K .latest) st year)
   outcome st (row f channel year) = answers st (part-shown (rowPart f channel year))
   outcome st (row-told f channel year) = answers st (refusedOr (rowCheck f channel year) row-is-shown)
   outcome st close = record { answer = closed; state = empty; buffer = [] }
@@ -156,7 +171,12 @@ module _ {X : Type 0} (K : Keeping X) where
 
 -- the specification's session machine
 abbrev pub theFile : Keeping Bytes
-theFile = record { keep = λ f. f; figures = figuresOf; priorMeans = λ f. tabFrom 0 (parts (lastYear f)) (priorMean f) }
+theFile = record {
+  keep = λ f. f;
+  figures = figuresOf;
+  priorMeans = λ f. tabFrom 0 (parts (lastYear f)) (priorMean f);
+  latest = latestOf;
+}
 
 abbrev pub machine : State Bytes → Call → Outcome Bytes
 machine = outcome theFile

@@ -9,7 +9,7 @@ use Rattle.definitions.specs.Words.{part}
 use Rattle.definitions.specs.Layout.{Bytes, parts}
 use Rattle.definitions.specs.Matrix.{Part, partOf, Figures, figuresOf}
 use Rattle.definitions.specs.Text.{ascii, space, lineFeed, decimal, signedDecimal, nameOf, indexOf, lines}
-use Rattle.definitions.specs.Machine.{Answer, refused, opened, judged, settled, going, written, part-shown, row-is-shown, closed}
+use Rattle.definitions.specs.Machine.{Answer, refused, opened, judged, settled, going, written, ultimate-is, part-shown, row-is-shown, closed}
 use Rattle.definitions.specs.Machine.{State, empty, holds, pageIn, theFile, openCall, sweepCall}
 
 -- ---- lines
@@ -40,6 +40,7 @@ printed (judged verdict) next settles = next
 printed (settled total) next settles = settles total
 printed (going total) next settles = spentLine total
 printed written next settles = next
+printed (ultimate-is figure) next settles = next
 printed (part-shown bytes) next settles = next
 printed row-is-shown next settles = next
 printed closed next settles = next

@@ -5,9 +5,12 @@ use mathlib.Core.Logic.{_≢_}
 use mathlib.Core.List.{List}
 use native.Mathlib.Omega.{arith}
 use lib.ListN.{getD}
+use lib.IntN.{ℤ}
+use Rattle.definitions.specs.Words.{part}
 use Rattle.definitions.specs.Layout.{Bytes, lastYear}
 use Rattle.definitions.specs.Refusals.{clear, refuses, rowCheck}
 use Rattle.definitions.specs.Matrix as D
+use Rattle.definitions.specs.Ultimate.{Divided, numerator, divisor}
 use Rattle.definitions.specs.Machine.{Answer, refused, State, empty, holds, rowPart}
 use Rattle.laws.specs.Numbers as N
 use Rattle.laws.specs.Rows.{row-inside, row-some, row-shown}
@@ -43,9 +46,15 @@ use Rattle.telling.specs.declared.Refusal.{Refusal}
 use Rattle.telling.specs.declared.Judged.{Judged}
 use Rattle.telling.specs.declared.Swept.{Swept}
 use Rattle.telling.specs.declared.RowShown.{RowShown}
+use Rattle.projecting.specs.declared.Ultimate.{Ultimate}
+use Rattle.projecting.specs.declared.UltimateAnswer.{UltimateAnswer}
+use Rattle.projecting.specs.declared.UltimateAnswer.the-variants as U
+use Rattle.projecting.specs.Projects as UltimateCall
+use Rattle.projecting.specs.Projects.{ofProject, latestOf, projectsTo}
 use Rattle.telling.specs.declared.System.{System}
-use Rattle.telling.specs.Told.{none, told, refusalTold, judgeTold, sweepTold, rowTold, figuresTold, systemTold}
-use Rattle.desk.specs.Calls.{Numbered, Opens, Judges, Sweeps, Writes, Shows, Closes, ShowsRow}
+use Rattle.telling.specs.declared.Projected.{Projected}
+use Rattle.telling.specs.Told.{none, told, refusalTold, judgeTold, sweepTold, rowTold, figuresTold, systemTold, ultimateTold}
+use Rattle.desk.specs.Calls.{Numbered, Opens, Judges, Sweeps, Writes, Projects, Shows, Closes, ShowsRow}
 
 never-0 : {a : Answer} → N.NumberedAnswer a → Numbered a
 never-0 listed place e = subst N.NumberedAnswer e listed
@@ -136,6 +145,36 @@ writes-told size text s before a after h {r} e = record {
     is-written W.Written same none = refl
     is-written (W.Refused number place) same none =
         absurd (numbered place (sym same ∙ ap (λ n. refused n place) none))
+
+-- ---- ultimate
+
+pub projects-told : (o : Observations) (s : Held) (year : ℕ) (a : UltimateAnswer) → UltimateCall.Projects o s year a
+    → {r : Projected} → r ≡ ultimateTold (ofProject a) → Projects o s year r
+projects-told o s year a h {r} e = record {
+  told = e ∙ ap ultimateTold (h .answer);
+  numbered = numbered;
+  exact = λ F μ total state done.
+      let found = central a (h .answer) (number ∙ done) in
+      subst (Exact F μ) (sym (e ∙ ap (λ x. ultimateTold (ofProject x)) (found .1))) (h .exact F μ total state (found .0) (found .1));
+  worth = λ f μ total open-file done.
+      let found = central a (h .answer) (number ∙ done) in h .worth f μ total open-file (found .0) (found .1);
+}
+  where
+    numbered : Numbered (projectsTo o (stateOf s) year)
+    numbered = never-0 (N.ultimate-numbered itself (latestOf o) (stateOf s) year)
+
+    number : refusalTold (ofProject a) .number ≡ r .refusal .number
+    number = sym (ap (λ x. x .refusal .number) e)
+
+    Exact : D.Figures → List ℤ → Projected → Type 0
+    Exact F μ r =
+        Divided (numerator (F .last) (latestOf o F) year (part μ)) (record { floor = r .floor; remainder = r .remainder; divisor = r .divisor })
+        × (r .divisor ≡ divisor (F .last) (latestOf o F) year)
+
+    central : (a : UltimateAnswer) → ofProject a ≡ projectsTo o (stateOf s) year → refusalTold (ofProject a) .number ≡ 0
+        → (u : Ultimate) × (a ≡ U.Central u)
+    central (U.Central u) same done = (u, refl)
+    central (U.Refused number place) same done = absurd (numbered place (sym same ∙ ap (λ n. refused n place) done))
 
 -- ---- figures
 

@@ -13,10 +13,13 @@ use Rattle.definitions.specs.Refusals.{clear, refuses, rowCheck, recordCheck}
 use Rattle.definitions.specs.Observations.{chainOf}
 use Rattle.definitions.specs.Sweep.{sweepLimit}
 use Rattle.definitions.specs.Page.{pageLength}
-use Rattle.definitions.specs.Machine.{Answer, refused, empty, rowPart, recordIn, pageIn}
+use Rattle.definitions.specs.Matrix.{Figures}
+use Rattle.definitions.specs.Ultimate.{Divided, numerator, divisor}
+use Rattle.definitions.specs.Machine.{Answer, refused, empty, holds, rowPart, recordIn, pageIn}
 use Rattle.definitions.specs.Guarantee.{Guarantee, Rounded}
 use Rattle.chain.specs.Arrays.{figuresAt}
 use Rattle.observations.specs.declared.Observations.{Observations}
+use Rattle.observations.specs.Arrays.{observationsAt}
 use Rattle.holding.specs.State.{Held, stateOf, heldIn, sessionState, HoldsFile}
 use Rattle.opening.specs.Opens.{opensTo}
 use Rattle.judging.specs.Judges.{judgesTo}
@@ -24,12 +27,14 @@ use Rattle.sweeping.specs.Sweeps.{sweepsTo}
 use Rattle.writing.specs.Writes.{Text, writesTo}
 use Rattle.showing.specs.declared.FiguresAnswer.the-variants.{Refused}
 use Rattle.showing.specs.Shows.{showsTo, FiguresOf}
+use Rattle.projecting.specs.Projects.{latestOf, projectsTo}
 use Rattle.telling.specs.declared.Refusal.{Refusal}
 use Rattle.telling.specs.declared.Judged.{Judged}
 use Rattle.telling.specs.declared.Swept.{Swept}
 use Rattle.telling.specs.declared.RowShown.{RowShown}
 use Rattle.telling.specs.declared.System.{System}
-use Rattle.telling.specs.Told.{refusalTold, judgeTold, sweepTold, rowTold, systemTold}
+use Rattle.telling.specs.declared.Projected.{Projected}
+use Rattle.telling.specs.Told.{refusalTold, judgeTold, sweepTold, rowTold, systemTold, ultimateTold}
 
 -- no refusal has the number 0, so that 0 says that there is none
 abbrev pub Numbered : Answer → Type 0
@@ -71,6 +76,19 @@ Reads = Writes recordLength recordIn
 
 abbrev pub Pages : Held → Bytes → Refusal → Bytes → Type 0
 Pages = Writes pageLength pageIn
+
+pub record Projects (o : Observations) (s : Held) (year : ℕ) (r : Projected) : Type 0 where
+  pub told : r ≡ ultimateTold (projectsTo o (stateOf s) year)
+  pub numbered : Numbered (projectsTo o (stateOf s) year)
+  pub exact : (F : Figures) (μ : List ℤ) (total : ℕ) → stateOf s ≡ holds F μ total → r .refusal .number ≡ 0
+      → Divided (numerator (F .last) (latestOf o F) year (part μ)) (record { floor = r .floor; remainder = r .remainder; divisor = r .divisor })
+      × (r .divisor ≡ divisor (F .last) (latestOf o F) year)
+  pub worth : (f : Bytes) (μ : List ℤ) (total : ℕ) → HoldsFile s f μ total → r .refusal .number ≡ 0
+      → Guarantee (chainOf f) (closeness f) (part μ)
+
+-- of lent arrays, whatever weights the session keeps beside them
+abbrev pub ProjectsLent : List ℤ → List ℕ → Held → ℕ → Projected → Type 0
+ProjectsLent ticks variances s year r = (weights : List ℕ) → Projects (observationsAt ticks weights variances) s year r
 
 pub record Shows (s : Held) (r : System) : Type 0 where
   pub told : r ≡ systemTold (showsTo (stateOf s))

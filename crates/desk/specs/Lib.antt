@@ -3,3 +3,4 @@ pub mod Calls
 pub mod CallLaws
 pub mod Pinned
 pub mod PinnedSession
+pub mod PinnedUltimate

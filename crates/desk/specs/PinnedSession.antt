@@ -6,16 +6,17 @@ use mathlib.Core.Path.{_≡_, sym, ap, _∙_}
 use mathlib.Core.List.{List}
 use lib.IntN.{ℤ}
 use Rattle.definitions.specs.Layout.{Bytes}
-use Rattle.definitions.specs.Machine.{open-file, judge, sweep, read, page, close, State, mapState, Outcome, outcome}
+use Rattle.definitions.specs.Machine.{open-file, judge, sweep, read, page, ultimate, close, State, mapState, Outcome, outcome}
 use Rattle.definitions.specs.Kept.{Kept, inSession}
 use Rattle.observations.specs.declared.Observations.{Observations}
 use Rattle.holding.specs.State.{Held, heldIn, keptWith, sessionState}
-use Rattle.holding.specs.SessionLaws.{judge-session, sweep-session, read-session, page-session}
+use Rattle.holding.specs.SessionLaws.{judge-session, sweep-session, read-session, page-session, ultimate-session}
 use Rattle.telling.specs.declared.Refusal.{Refusal}
 use Rattle.telling.specs.declared.Judged.{Judged}
 use Rattle.telling.specs.declared.Swept.{Swept}
-use Rattle.telling.specs.Told.{refusalTold, judgeTold, sweepTold}
-use Rattle.desk.specs.Calls.{Opens, Judges, Sweeps, Reads, Pages, Closes}
+use Rattle.telling.specs.declared.Projected.{Projected}
+use Rattle.telling.specs.Told.{refusalTold, judgeTold, sweepTold, ultimateTold}
+use Rattle.desk.specs.Calls.{Opens, Judges, Sweeps, Reads, Pages, Projects, Closes}
 
 module _ (o : Observations) (s : Held) where
   abbrev st : State Kept
@@ -49,6 +50,9 @@ module _ (o : Observations) (s : Held) where
   pages-all lent after r call =
       let whole = sym (page-session o s lent) in
       (call .told ∙ ap (λ x. refusalTold (x .answer)) whole, call .buffer ∙ ap (λ x. x .buffer) whole)
+
+  pub projects-all : (year : ℕ) (r : Projected) → Projects o s year r → r ≡ ultimateTold (outcome inSession st (ultimate year) .answer)
+  projects-all year r call = call .told ∙ ap (λ x. ultimateTold (x .answer)) (sym (ultimate-session o s year))
 
   pub closes-all : (held : List ℕ) → Closes held → (D : List ℕ) (A b μ : List ℤ) (p : Observations)
       → sessionState p (heldIn held D A b μ) ≡ outcome inSession st close .state

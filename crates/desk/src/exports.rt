@@ -1,7 +1,7 @@
 // What C calls. `held` has J (0 while nothing is open), the closeness and the sweeps run since open.
 ghost use Rattle.observations.specs.Arrays.{observationsAt};
 ghost use Rattle.holding.specs.State.{heldIn};
-ghost use Rattle.desk.specs.Calls.{Opens, Judges, Sweeps, Reads, Pages, Shows, Closes, ShowsRow};
+ghost use Rattle.desk.specs.Calls.{Opens, Judges, Sweeps, Reads, Pages, ProjectsLent, Shows, Closes, ShowsRow};
 use layout::checks::Check;
 use readings::rows::row_place;
 use readings::rows::row_told;
@@ -11,7 +11,9 @@ use session::lent::open_lent;
 use session::lent::page_lent;
 use session::lent::read_lent;
 use session::lent::sweep_lent;
+use session::lent::ultimate_lent;
 use telling::Judged;
+use telling::Projected;
 use telling::Refusal;
 use telling::RowShown;
 use telling::Swept;
@@ -20,6 +22,7 @@ use telling::judge_told;
 use telling::open_told;
 use telling::sweep_told;
 use telling::system_told;
+use telling::ultimate_told;
 use telling::write_told;
 
 // 22, then 1 to 10.
@@ -163,6 +166,36 @@ pub extern "C" fn desk_page_lent<'a>(
         right_hand,
         mean,
         buffer,
+    ))
+}
+
+// 21, 24, 25.
+#[no_mangle]
+pub extern "C" fn desk_ultimate_lent<'a>(
+    held: &'a [u64; 3],
+    own: &'a [u64; 31],
+    matrix: &'a [i64; 961],
+    right_hand: &'a [i64; 31],
+    mean: &'a [i64; 31],
+    ticks: &'a [i64; 303],
+    variances: &'a [u64; 31],
+    year: u64,
+) -> Projected
+    ensures { λ r. ⌜ ProjectsLent (now (ticks .entry)) (now (variances .entry))
+        (heldIn (now (held .entry)) (now (own .entry)) (now (matrix .entry)) (now («right_hand» .entry)) (now (mean .entry)))
+        year r ⌝ }
+{
+    ultimate_told(ultimate_lent(
+        held[0] as usize,
+        held[1],
+        held[2],
+        own,
+        matrix,
+        right_hand,
+        mean,
+        ticks,
+        variances,
+        year,
     ))
 }
 

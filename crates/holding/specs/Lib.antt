@@ -6,4 +6,5 @@ pub mod Bounds
 pub mod Fitted
 pub mod Reached
 pub mod Worth
+pub mod Passing
 pub mod Pinned

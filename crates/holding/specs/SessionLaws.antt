@@ -1,5 +1,5 @@
--- Judge, sweep, read and page are lent what is held, and their contracts speak of that. Of the whole session, whatever observations it
--- keeps, the machine answers the same, and leaves the same beside the same observations.
+-- Judge, sweep, read and page are lent what is held, and their contracts speak of that; so does that of ultimate, with the observations
+-- beside it. Of the whole session, whatever observations it keeps, the machine answers the same, and leaves the same beside them.
 use Prim.Native.Nat.{ℕ}
 use mathlib.Core.Path.{_≡_, refl, ap}
 use mathlib.Core.List.{List}
@@ -7,10 +7,13 @@ use lib.IntN.{ℤ}
 use Rattle.definitions.specs.Layout.{Bytes, recordLength}
 use Rattle.definitions.specs.Page.{pageLength}
 use Rattle.definitions.specs.Matrix.{Figures}
-use Rattle.definitions.specs.Machine.{judge, sweep, read, page, answers, judgeCall, sweepCall, writeCall, recordIn, pageIn, outcome}
-use Rattle.definitions.specs.Kept.{inSession}
-use Rattle.laws.specs.MachineLaws.{mapOutcome, judge-alike, sweep-alike, write-alike}
+use Rattle.definitions.specs.Machine.{judge, sweep, read, page, ultimate, answers, outcome}
+use Rattle.definitions.specs.Machine.{judgeCall, sweepCall, writeCall, recordIn, pageIn, ultimateCall}
+use Rattle.definitions.specs.Kept.{latestIn, inSession}
+use Rattle.laws.specs.MachineLaws.{mapOutcome, judge-alike, sweep-alike, write-alike, ultimate-alike}
+use Rattle.laws.specs.Ultimates.{same-latest}
 use Rattle.observations.specs.declared.Observations.{Observations}
+use Rattle.observations.specs.Arrays.{observedIn}
 use Rattle.holding.specs.State.{Held, stateOf, keptWith, sessionState}
 
 module _ (o : Observations) (s : Held) where
@@ -39,3 +42,12 @@ module _ (o : Observations) (s : Held) where
       → outcome inSession (sessionState o s) (page b) ≡ mapOutcome (keptWith o) (writeCall alone pageLength pageIn (stateOf s) b)
   unfolding outcome
   page-session = write-session pageLength pageIn
+
+  pub ultimate-session : (year : ℕ)
+      → outcome inSession (sessionState o s) (ultimate year)
+      ≡ answers (sessionState o s) (ultimateCall alone (λ F. latestIn (F .last) (observedIn (F .last) o)) (stateOf s) year)
+  unfolding outcome
+  ultimate-session year =
+      ap (answers (sessionState o s))
+      (ultimate-alike (keptWith o) alone (λ x. x .figures) (λ F. latestIn (F .last) (observedIn (F .last) o))
+      (λ x. latestIn (x .figures .last) (x .observed)) (λ F. refl) (λ F. same-latest) (stateOf s) year)

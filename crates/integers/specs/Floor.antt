@@ -4,7 +4,7 @@ use mathlib.Core.Path.{_≡_}
 use mathlib.Core.Logic.{_⊎_, inl, inr}
 use native.Mathlib.Nat.{div-add-mod, mod-lt}
 use native.Mathlib.Omega.{arith}
-use lib.IntN.{ℤ, pos, negsuc, _+ℤ_, _-ℤ_, _*ℤ_}
+use lib.IntN.{ℤ, pos, negsuc, _+ℤ_, _-ℤ_, _*ℤ_, *ℤ-comm}
 use lib.Signed.{_≤ℤ_, _<ℤ_, shrZ}
 use Rattle.integers.specs.Linear.{linear, zarith}
 use Rattle.integers.specs.Order.{*ℤ-mono, pos-nonneg, ≤ℤ-or-<ℤ}
@@ -19,6 +19,23 @@ floor-≤ (negsuc a) {d} h = simp linear (omega (arith, div-add-mod a d, mod-lt 
 pub floor-< : (x : ℤ) {d : ℕ} → 0 < d → x <ℤ (pos d *ℤ (floorDiv x d +ℤ pos 1))
 floor-< (pos a) {d} h = simp linear (omega (arith, div-add-mod a d, mod-lt a h))
 floor-< (negsuc a) {d} h = simp linear (omega (arith, div-add-mod a d, mod-lt a h))
+
+-- what is left of x once d times its floor is taken away: from 0 to d − 1
+module _ (x : ℤ) {d : ℕ} (some : 0 < d) where
+  abbrev pub floorRest : ℤ
+  floorRest = x -ℤ floorDiv x d *ℤ pos d
+
+  pub floor-rest-nonneg : pos 0 ≤ℤ floorRest
+  floor-rest-nonneg =
+      let low = floor-≤ x some in
+      let turned = *ℤ-comm (pos d) (floorDiv x d) in
+      simp linear (omega (arith, simp linear at low, simp linear at turned))
+
+  pub floor-rest-< : floorRest <ℤ pos d
+  floor-rest-< =
+      let high = floor-< x some in
+      let turned = *ℤ-comm (pos d) (floorDiv x d) in
+      simp linear (omega (arith, simp linear at high, simp linear at turned))
 
 -- d · p is below d · (q + 1) only where p is at most q
 quotients : (x p q : ℤ) (d : ℕ) → (pos d *ℤ p) ≤ℤ x → x <ℤ (pos d *ℤ (q +ℤ pos 1)) → p ≤ℤ q

@@ -45,6 +45,8 @@
 --   PinnedPage        both once more, byte by byte and in plain numbers
 --   Printed           what the two programs print for every input: by the answer of their last call, and in at most 4,096 bytes
 --   Numbers           a refusal has a number of the table
+--   Ultimates         the central ultimate: floor and remainder are those of its numerator, and no others
+--   PinnedUltimate    the same once more, in document 02's letters
 pub mod Tables
 pub mod Filled
 pub mod Runs
@@ -90,3 +92,5 @@ pub mod Pages
 pub mod PinnedPage
 pub mod Printed
 pub mod Numbers
+pub mod Ultimates
+pub mod PinnedUltimate

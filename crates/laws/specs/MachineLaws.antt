@@ -1,6 +1,6 @@
 -- The session machine of the specification: it answers alike on what a session keeps of a file, and every state that a list of calls
 -- reaches from the empty one is empty, or an accepted file with a mean inside the limits and a total of at most 4,096.
-use Prim.Native.Nat.{ℕ, zero, suc, _≤_, _<_, zero-le}
+use Prim.Native.Nat.{ℕ, zero, suc, _+_, _*_, _-_, _≤_, _<_, zero-le}
 use mathlib.Core.Path.{_≡_, refl, sym, ap, ap₂, _∙_}
 use mathlib.Core.Bool.{Bool, true, false, not, cond, _||_}
 use mathlib.Core.List.{List, [], _∷_, map}
@@ -10,20 +10,23 @@ use lib.Dec.{T, leb, ltb, nleb→lt}
 use lib.IntN.{ℤ, pos, natAbs}
 use lib.ListN.{length, List·getD-eq-default}
 use Rattle.definitions.specs.Words.{within, tabFrom, part}
-use Rattle.definitions.specs.Layout.{Bytes, lastYear, closeness, parts, priorMean, recordLength}
+use Rattle.definitions.specs.Layout.{Bytes, lastYear, closeness, parts, psiIndex, cells, rowStart, varianceOf, priorMean, amount, recordLength}
 use Rattle.definitions.specs.Page.{pageLength}
 use Rattle.definitions.specs.Refusals.{Check, clear, refuses, fileCheck, partLimit, isClear, accepted}
-use Rattle.definitions.specs.Observations.{chainOf}
-use Rattle.definitions.specs.Matrix.{Figures, figuresOf, passes}
+use Rattle.definitions.specs.Observations.{chainOf, logOf}
+use Rattle.definitions.specs.Matrix.{Figures, figuresFrom, figuresOf, passes}
 use Rattle.definitions.specs.Sweep.{sweeps, sweepLimit, oneSweep}
-use Rattle.definitions.specs.Machine.{Call, open-file, judge, sweep, read, page, row, row-told, close}
-use Rattle.definitions.specs.Machine.{State, empty, holds, mapState, Keeping, Outcome, answers, openUnless, theFile}
-use Rattle.definitions.specs.Machine.{openCall, judgeCall, sweepCall, writeCall, recordIn, pageIn, outcome, outcomes, machine}
-use Rattle.definitions.specs.Kept.{keptOf, inSession}
-use Rattle.laws.specs.Accepted.{accepted-file, AcceptedFile}
+use Rattle.definitions.specs.Ultimate.{Latest, latestOf, ultimateOf}
+use Rattle.definitions.specs.Machine.{Call, open-file, judge, sweep, read, page, ultimate, row, row-told, close}
+use Rattle.definitions.specs.Machine.{refused, ultimate-is, State, empty, holds, mapState, Keeping, Outcome, answers, openUnless, theFile}
+use Rattle.definitions.specs.Machine.{openCall, judgeCall, sweepCall, writeCall, recordIn, pageIn, ultimateCall, outcome, outcomes, machine}
+use Rattle.definitions.specs.Kept.{observedOf, keptOf, latestIn, inSession}
+use Rattle.laws.specs.Accepted.{within-yes, accepted-file, AcceptedFile}
+use Rattle.laws.specs.Cells.{cell-below}
 use Rattle.laws.specs.FileChain.{file-chain}
 use Rattle.laws.specs.Tables.{tab-at, tabFrom-length}
 use Rattle.laws.specs.SweepLaws.{MeanOf, sweeps-came}
+use Rattle.laws.specs.Ultimates.{SameLatest, ultimate-cong}
 
 -- ---- what is kept, in another form
 
@@ -63,6 +66,25 @@ module _ {X Y : Type 0} (φ : X → Y) (F : X → Figures) (G : Y → Figures) (
   write-alike size text (holds x μ total) b =
       rw (same x) (sym (map-cond₂ (not (passes (F x) (part μ))) (ltb (length b) (size (F x .last))) _ _ _))
 
+-- ultimate, where the latest amounts and the variances are the same besides
+module _ {X Y : Type 0} (φ : X → Y) (F : X → Figures) (G : Y → Figures) (a : X → Latest) (b : Y → Latest)
+    (same : (x : X) → G (φ x) ≡ F x) (latest : (x : X) → SameLatest (F x .last) (b (φ x)) (a x)) where
+  pub ultimate-alike : (st : State X) (year : ℕ) → ultimateCall G b (mapState φ st) year ≡ ultimateCall F a st year
+  unfolding ultimateCall
+  ultimate-alike empty year = refl
+  ultimate-alike (holds x μ total) year = rw (same x) (by-year (within 1 (F x .last) year) refl)
+    where
+      by-year : (t : Bool) → within 1 (F x .last) year ≡ t
+          → cond (not (passes (F x) (part μ))) (refused 24 0)
+          (cond (not t) (refused 25 0) (ultimate-is (ultimateOf (F x .last) (b (φ x)) year (part μ))))
+          ≡ cond (not (passes (F x) (part μ))) (refused 24 0)
+          (cond (not t) (refused 25 0) (ultimate-is (ultimateOf (F x .last) (a x) year (part μ))))
+      by-year false e = refl
+      by-year true e =
+          let there = within-yes 1 (F x .last) year (rw e tt) in
+          ap (λ r. cond (not (passes (F x) (part μ))) (refused 24 0) (ultimate-is r))
+          (ultimate-cong (latest x) (there .to) (λ k below. refl))
+
 -- a call that writes leaves the state as it was
 pub write-alone : {X : Type 0} (figures : X → Figures) (size : ℕ → ℕ) (text : Figures → List ℤ → Bytes) (st : State X) (b : Bytes)
     → writeCall figures size text st b .state ≡ st
@@ -81,6 +103,7 @@ pub record Alike {X Y : Type 0} (K : Keeping X) (L : Keeping Y) (φ : X → Y) :
   pub keeps : (f : Bytes) → φ (K .keep f) ≡ L .keep f
   pub figures : (x : X) → L .figures (φ x) ≡ K .figures x
   pub priorMeans : (x : X) → L .priorMeans (φ x) ≡ K .priorMeans x
+  pub latest : (x : X) → SameLatest (K .figures x .last) (L .latest (φ x)) (K .latest x)
 
 module _ {X Y : Type 0} (K : Keeping X) (L : Keeping Y) (φ : X → Y) (h : Alike K L φ) where
   open-alike : (c : Check) (f : Bytes) → openUnless L c f ≡ mapOutcome φ (openUnless K c f)
@@ -95,6 +118,8 @@ module _ {X Y : Type 0} (K : Keeping X) (L : Keeping Y) (φ : X → Y) (h : Alik
   outcome-alike st (sweep n) = sweep-alike φ (K .figures) (L .figures) (h .figures) st n
   outcome-alike st (read b) = write-alike φ (K .figures) (L .figures) (h .figures) recordLength recordIn st b
   outcome-alike st (page b) = write-alike φ (K .figures) (L .figures) (h .figures) pageLength pageIn st b
+  outcome-alike st (ultimate year) =
+      ap (answers (mapState φ st)) (ultimate-alike φ (K .figures) (L .figures) (K .latest) (L .latest) (h .figures) (h .latest) st year)
   outcome-alike st (row f channel year) = refl
   outcome-alike st (row-told f channel year) = refl
   outcome-alike st close = refl
@@ -106,9 +131,24 @@ module _ {X Y : Type 0} (K : Keeping X) (L : Keeping Y) (φ : X → Y) (h : Alik
       let same = outcome-alike st call in
       ap₂ _∷_ same (ap (λ o. outcomes L (o .state) calls) same ∙ outcomes-alike calls (outcome K st call .state))
 
+latest-kept : (f : Bytes) → SameLatest (lastYear f) (latestIn (lastYear f) (observedOf f)) (latestOf f)
+latest-kept f = record {
+  logPaid = λ i there. logarithm-at (rowStart J i + (J - i)) (omega (arith, cell-below J i (J - i) (omega arith)));
+  logIncurred = λ i there. logarithm-at (cells J + (rowStart J i + (J - i))) (omega (arith, cell-below J i (J - i) (omega arith)));
+  σ² = λ m there. tab-at (parts J) (varianceOf f) m 0 (omega arith);
+  τ² = λ n there. tab-at (parts J) (varianceOf f) (psiIndex J n) 0 (omega arith);
+}
+  where
+    J : ℕ
+    J = lastYear f
+
+    logarithm-at : (c : ℕ) → c < 2 * cells J → part (observedOf f .logarithms) c ≡ logOf (amount f c)
+    logarithm-at c below = tab-at (2 * cells J) (λ c. logOf (amount f c)) c (pos 0) below
+
 -- what a session keeps, in the place of the file
 pub session-alike : Alike theFile inSession keptOf
-session-alike = record { keeps = λ f. refl; figures = λ f. refl; priorMeans = λ f. refl }
+unfolding figuresFrom
+session-alike = record { keeps = λ f. refl; figures = λ f. refl; priorMeans = λ f. refl; latest = latest-kept }
 
 -- ---- states that calls reach
 
@@ -174,6 +214,7 @@ good-call (holds f μ total) (sweep n) g =
     (g .0, came .mean, sweeps-total (figuresOf f) n μ total (g .2))))
 good-call st (read b) g = good-write recordLength recordIn st b g
 good-call st (page b) g = good-write pageLength pageIn st b g
+good-call st (ultimate year) g = g
 good-call st (row f channel year) g = g
 good-call st (row-told f channel year) g = g
 good-call st close g = tt

@@ -13,13 +13,14 @@ use Rattle.definitions.specs.Refusals.{check1, check2, check3, check4, check5, 
 use Rattle.definitions.specs.Refusals.{fileCheck, rowCheck, recordCheck}
 use Rattle.definitions.specs.Matrix.{Figures, passes}
 use Rattle.definitions.specs.Sweep.{sweeps, sweepLimit}
-use Rattle.definitions.specs.Machine.{Outcome, Answer, refused, opened, judged, settled, going, written, part-shown, row-is-shown, closed}
+use Rattle.definitions.specs.Ultimate.{Latest, Ultimate}
+use Rattle.definitions.specs.Machine.{Outcome, Answer, refused, opened, judged, settled, going, written, ultimate-is, part-shown, row-is-shown, closed}
 use Rattle.definitions.specs.Machine.{State, empty, holds, Keeping, openUnless, refusedOr}
-use Rattle.definitions.specs.Machine.{openCall, judgeCall, sweepCall, writeCall}
+use Rattle.definitions.specs.Machine.{openCall, judgeCall, sweepCall, writeCall, ultimateCall}
 
 -- the numbers of the input, and those of the state
 abbrev pub inTable : ℕ → Bool
-inTable n = within 1 15 n || within 21 24 n
+inTable n = within 1 15 n || within 21 25 n
 
 -- ---- checks
 
@@ -89,6 +90,7 @@ NumberedAnswer (judged j) = Unit {0}
 NumberedAnswer (settled total) = Unit {0}
 NumberedAnswer (going total) = Unit {0}
 NumberedAnswer written = Unit {0}
+NumberedAnswer (ultimate-is r) = Unit {0}
 NumberedAnswer (part-shown b) = Unit {0}
 NumberedAnswer row-is-shown = Unit {0}
 NumberedAnswer closed = Unit {0}
@@ -137,3 +139,15 @@ module _ {X : Type 0} (figures : X → Figures) where
   write-numbered size text (holds x μ total) b =
       either (not (passes (figures x) (part μ))) _ _ tt
       (either (ltb (length b) (size (figures x .last))) _ _ tt tt)
+
+pub ultimate-numbered : {X : Type 0} (figures : X → Figures) (latest : X → Latest) (st : State X) (year : ℕ)
+    → NumberedAnswer (ultimateCall figures latest st year)
+unfolding ultimateCall
+ultimate-numbered figures latest empty year = tt
+ultimate-numbered figures latest (holds x μ total) year =
+    by-tests (not (passes (figures x) (part μ))) (not (within 1 (figures x .last) year)) _
+  where
+    by-tests : (a b : Bool) (r : Ultimate) → NumberedAnswer (cond a (refused 24 0) (cond b (refused 25 0) (ultimate-is r)))
+    by-tests true b r = tt
+    by-tests false true r = tt
+    by-tests false false r = tt

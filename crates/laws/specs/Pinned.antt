@@ -20,9 +20,10 @@ use Rattle.definitions.specs.Loss.{Vector, weighted, ratio, loss, lossTimes}
 use Rattle.definitions.specs.Observations.{Chain, chainOf}
 use Rattle.definitions.specs.Refusals.{clear, rowCheck, accepted}
 use Rattle.definitions.specs.Matrix.{own, residueTimes, figuresOf, passes}
-use Rattle.definitions.specs.Machine.{State, empty, mapState, Keeping, Call, outcomes, open-file, judge, sweep, read, page, row, row-told, close}
+use Rattle.definitions.specs.Machine.{Call, open-file, judge, sweep, read, page, ultimate, row, row-told, close}
+use Rattle.definitions.specs.Machine.{State, empty, mapState, Keeping, outcomes}
 use Rattle.definitions.specs.Machine.{closed, refused, part-shown, row-is-shown, refusedOr, rowPart}
-use Rattle.definitions.specs.Machine.{recordIn, pageIn, openCall, judgeCall, sweepCall, readCall, pageCall, outcome, theFile}
+use Rattle.definitions.specs.Machine.{recordIn, pageIn, openCall, judgeCall, sweepCall, readCall, pageCall, ultimateCall, outcome, theFile}
 use Rattle.definitions.specs.Kept.{keptOf, inSession}
 use Rattle.definitions.specs.Guarantee.{Guarantee, Rounded}
 use Rattle.laws.specs.Accepted.{Within, within-yes}
@@ -111,6 +112,8 @@ module _ (X : Type 0) (K : Keeping X) (st : State X) where
     pub reads-alone : (b : Bytes) → outcome K st (read b) .state ≡ st
     pub pages : (b : Bytes) → outcome K st (page b) ≡ pageCall (K .figures) st b
     pub pages-alone : (b : Bytes) → outcome K st (page b) .state ≡ st
+    pub ultimates : (year : ℕ)
+        → outcome K st (ultimate year) ≡ record { answer = ultimateCall (K .figures) (K .latest) st year; state = st; buffer = [] }
     pub shows : (f : Bytes) (channel year : ℕ)
         → outcome K st (row f channel year) ≡ record { answer = part-shown (rowPart f channel year); state = st; buffer = [] }
     pub tells : (f : Bytes) (channel year : ℕ)
@@ -129,6 +132,7 @@ module _ (X : Type 0) (K : Keeping X) (st : State X) where
     reads-alone = write-alone (K .figures) recordLength recordIn st;
     pages = λ b. refl;
     pages-alone = write-alone (K .figures) pageLength pageIn st;
+    ultimates = λ year. refl;
     shows = λ f channel year. refl;
     tells = λ f channel year. refl;
     closes = refl;
@@ -144,20 +148,21 @@ call-numbered X K st (judge r) = N.judge-numbered (K .figures) st r
 call-numbered X K st (sweep n) = N.sweep-numbered (K .figures) st n
 call-numbered X K st (read b) = N.write-numbered (K .figures) recordLength recordIn st b
 call-numbered X K st (page b) = N.write-numbered (K .figures) pageLength pageIn st b
+call-numbered X K st (ultimate year) = N.ultimate-numbered (K .figures) (K .latest) st year
 call-numbered X K st (row f channel year) = tt
 call-numbered X K st (row-told f channel year) =
     N.refused-or (rowCheck f channel year) row-is-shown (N.row-numbered f channel year) tt
 call-numbered X K st close = tt
 
 pub in-table : (X : Type 0) (K : Keeping X) (st : State X) (call : Call) (number place : ℕ)
-    → outcome K st call .answer ≡ refused number place → ((1 ≤ number) × (number ≤ 15)) ⊎ ((21 ≤ number) × (number ≤ 24))
+    → outcome K st call .answer ≡ refused number place → ((1 ≤ number) × (number ≤ 15)) ⊎ ((21 ≤ number) × (number ≤ 25))
 in-table X K st call number place e =
     by-first (within 1 15 number) (within-yes 1 15 number) (subst N.NumberedAnswer e (call-numbered X K st call))
   where
-    by-first : (t : Bool) → (T t → Within 1 15 number) → T (t || within 21 24 number)
-        → ((1 ≤ number) × (number ≤ 15)) ⊎ ((21 ≤ number) × (number ≤ 24))
+    by-first : (t : Bool) → (T t → Within 1 15 number) → T (t || within 21 25 number)
+        → ((1 ≤ number) × (number ≤ 15)) ⊎ ((21 ≤ number) × (number ≤ 25))
     by-first true first listed = let w = first tt in inl (w .from, w .to)
-    by-first false first listed = let w = within-yes 21 24 number listed in inr (w .from, w .to)
+    by-first false first listed = let w = within-yes 21 25 number listed in inr (w .from, w .to)
 
 -- ---- over lists of calls what a session keeps answers as the file does, and an empty row is a refused one
 

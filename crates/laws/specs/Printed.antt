@@ -15,7 +15,7 @@ use Rattle.definitions.specs.Observations.{chainOf}
 use Rattle.definitions.specs.Matrix.{Part, partOf, Figures, figuresFrom, figuresOf, passes}
 use Rattle.definitions.specs.Sweep.{Swept, sweeps}
 use Rattle.definitions.specs.Text.{ascii, space, lineFeed, moreDigits, decimal, signedDecimal, nameOf, indexOf, lines}
-use Rattle.definitions.specs.Machine.{Answer, refused, opened, judged, settled, going, written, part-shown, row-is-shown, closed}
+use Rattle.definitions.specs.Machine.{Answer, refused, opened, judged, settled, going, written, ultimate-is, part-shown, row-is-shown, closed}
 use Rattle.definitions.specs.Machine.{State, empty, holds, mapState, Outcome, theFile, openUnless, openCall, sweepCall}
 use Rattle.definitions.specs.Programs.{countLine, partLine, refusalLine, spentLine, Show, printed, shown, sweepText, openText, programText}
 use Rattle.definitions.specs.Programs.{listed, listing}
@@ -46,6 +46,7 @@ Ends given st (settled total) = MeanSettled given st total
 Ends given st opened = ⊥
 Ends given st (judged verdict) = ⊥
 Ends given st written = ⊥
+Ends given st (ultimate-is r) = ⊥
 Ends given st (part-shown bytes) = ⊥
 Ends given st row-is-shown = ⊥
 Ends given st closed = ⊥

@@ -7,6 +7,7 @@ use crate::parts::read_parts;
 use crate::ratios::weigh_ratios;
 use layout::places::last_year;
 
+pub mod kept;
 pub mod logarithms;
 pub mod means;
 pub mod parts;

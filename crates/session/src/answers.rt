@@ -2,6 +2,8 @@
 use crate::Session;
 pub use judging::JudgeAnswer;
 pub use opening::OpenAnswer;
+pub use projecting::Ultimate;
+pub use projecting::UltimateAnswer;
 pub use showing::FiguresAnswer;
 pub use showing::Showing;
 pub use sweeping::SweepAnswer;

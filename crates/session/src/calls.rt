@@ -7,12 +7,14 @@ ghost use Rattle.judging.specs.Judges.{Judges};
 ghost use Rattle.sweeping.specs.Sweeps.{Sweeps};
 ghost use Rattle.writing.specs.Writes.{Reads, Pages};
 ghost use Rattle.showing.specs.Shows.{Shows};
+ghost use Rattle.projecting.specs.Projects.{Projects};
 ghost use Rattle.session.specs.Value.{heldBy};
 use crate::Session;
 use crate::answers::JudgeAnswer;
 use crate::answers::Opening;
 use crate::answers::Showing;
 use crate::answers::Sweeping;
+use crate::answers::UltimateAnswer;
 use crate::answers::WriteAnswer;
 use crate::lent::figures_lent;
 use crate::lent::judge_lent;
@@ -20,6 +22,7 @@ use crate::lent::open_lent;
 use crate::lent::page_lent;
 use crate::lent::read_lent;
 use crate::lent::sweep_lent;
+use crate::lent::ultimate_lent;
 use crate::state::empty;
 use chain::arrays::Figures;
 use observations::Observations;
@@ -144,6 +147,24 @@ pub fn page(s: Session, buffer: &mut [u8]) -> WriteAnswer
         &s.figures.right_hand,
         &s.mean,
         buffer,
+    )
+}
+
+// 21, 24, 25. The central ultimate of an accident year.
+pub fn ultimate(s: Session, year: u64) -> UltimateAnswer
+    ensures { λ r. ⌜ Projects (s .observations) (heldBy s) year r ⌝ }
+{
+    ultimate_lent(
+        s.figures.last,
+        s.figures.closeness,
+        s.total,
+        &s.figures.own,
+        &s.figures.matrix,
+        &s.figures.right_hand,
+        &s.mean,
+        &s.observations.ticks,
+        &s.observations.variances,
+        year,
     )
 }
 

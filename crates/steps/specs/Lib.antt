@@ -4,9 +4,7 @@
 --   Step, Sweep, Sweeps      the contracts, a record each for what is asked and what is given
 --   Held           residues follow a change of one part
 --   StepSizes      the sizes of what a step computes
---   BroughtBack    `bringBack` by its tests
 pub mod Working
-pub mod BroughtBack
 pub mod Held
 pub mod Step
 pub mod StepSizes

@@ -1,34 +1,8 @@
 // One step: the change of one part, with the residues following.
-ghost use mathlib.Core.Path.{_≡_};
-ghost use lib.IntN.{pos, natAbs};
-ghost use lib.Signed.{_<ℤ_};
-ghost use Rattle.integers.specs.Floor.{floorDiv};
-ghost use Rattle.definitions.specs.Sweep.{bringBack};
 ghost use Rattle.steps.specs.Step.{Follows, Followed, Steps, Stepped};
 use crate::Working;
-
-const PART_LIMIT: i64 = 67_108_864;
-
-// x / d rounded down; the code's own division rounds toward zero.
-fn floor(x: i64, d: i64) -> i64
-    requires { ⌜ pos 0 <ℤ d ⌝ }
-    ensures { λ r. ⌜ r ≡ floorDiv x (natAbs d) ⌝ }
-{
-    if x < 0 { -1 - (-1 - x) / d } else { x / d }
-}
-
-// z itself, or the limit that it has passed.
-fn brought_back(z: i64) -> i64
-    ensures { λ r. ⌜ r ≡ bringBack z ⌝ }
-{
-    if PART_LIMIT < z {
-        PART_LIMIT
-    } else if z < -PART_LIMIT {
-        -PART_LIMIT
-    } else {
-        z
-    }
-}
+use arithmetic::floor::floor;
+use arithmetic::limits::brought_back;
 
 // Part k has changed, and the residues follow: column k of A times the change is added. Above the diagonal the column is read as
 // row k, its mirror.

@@ -2,17 +2,17 @@
 use Prim.Native.Nat.{ℕ}
 use mathlib.Core.Path.{_≡_, refl}
 use mathlib.Core.List.{List}
-use lib.IntN.{ℤ}
+use lib.IntN.{ℤ, pos}
 use Rattle.integers.specs.Summation.{total}
 use Rattle.definitions.specs.Layout.{rowStart, rowAt, rowLength}
 use Rattle.definitions.specs.Refusals.{clear, refuses}
 use Rattle.definitions.specs.Matrix.{passed, fails}
-use Rattle.definitions.specs.Machine.{refused, opened, judged, settled, going, written}
+use Rattle.definitions.specs.Machine.{refused, opened, judged, settled, going, written, ultimate-is}
 use Rattle.chain.specs.declared.arrays.Figures.{Figures}
 use Rattle.chain.specs.Arrays.{figuresAt}
 use Rattle.showing.specs.declared.FiguresAnswer.the-variants.{Shown, Refused}
 use Rattle.telling.specs.declared.Refusal.{Refusal}
-use Rattle.telling.specs.Told.{refusalTold, judgeTold, sweepTold, rowTold, systemTold}
+use Rattle.telling.specs.Told.{refusalTold, judgeTold, sweepTold, ultimateTold, rowTold, systemTold}
 
 abbrev refusal : ℕ → ℕ → Refusal
 refusal number place = record { number = number; place = place }
@@ -29,6 +29,11 @@ pub record Pinned : Type 0 where
   pub going-mean : (n : ℕ) → sweepTold (going n) ≡ record { refusal = refusal 0 0; settled = 0; total = n }
   pub refused-sweeps : (number place : ℕ)
       → sweepTold (refused number place) ≡ record { refusal = refusal number place; settled = 0; total = 0 }
+  pub central-ultimate : (floor : ℤ) (remainder divisor : ℕ)
+      → ultimateTold (ultimate-is (record { floor = floor; remainder = remainder; divisor = divisor }))
+      ≡ record { refusal = refusal 0 0; floor = floor; remainder = remainder; divisor = divisor }
+  pub refused-ultimate : (number place : ℕ)
+      → ultimateTold (refused number place) ≡ record { refusal = refusal number place; floor = pos 0; remainder = 0; divisor = 0 }
   pub shown-row : (J channel year : ℕ)
       → rowTold J channel year clear ≡ record { refusal = refusal 0 0; start = rowAt J channel year; length = rowLength J year }
   -- File F's incurred amounts of year 0
@@ -53,6 +58,8 @@ pinned = record {
   settled-mean = λ n. refl;
   going-mean = λ n. refl;
   refused-sweeps = λ number place. refl;
+  central-ultimate = λ floor remainder divisor. refl;
+  refused-ultimate = λ number place. refl;
   shown-row = λ J channel year. refl;
   row-of-F = refl;
   refused-row = λ J channel year number place. refl;

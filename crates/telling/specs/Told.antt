@@ -1,9 +1,11 @@
 -- What C is told of an answer of the machine, in numbers; whatever an answer does not have is 0.
 use Prim.Native.Nat.{ℕ}
+use lib.IntN.{pos}
 use Rattle.definitions.specs.Layout.{rowAt, rowLength}
 use Rattle.definitions.specs.Refusals.{Check, clear, refuses}
 use Rattle.definitions.specs.Matrix.{passed, fails}
-use Rattle.definitions.specs.Machine.{Answer, refused, opened, judged, settled, going, written, part-shown, row-is-shown, closed}
+use Rattle.definitions.specs.Ultimate.{Ultimate}
+use Rattle.definitions.specs.Machine.{Answer, refused, opened, judged, settled, going, written, ultimate-is, part-shown, row-is-shown, closed}
 use Rattle.chain.specs.declared.arrays.Figures.{Figures}
 use Rattle.showing.specs.declared.FiguresAnswer.{FiguresAnswer}
 use Rattle.showing.specs.declared.FiguresAnswer.the-variants.{Shown, Refused}
@@ -12,20 +14,25 @@ use Rattle.telling.specs.declared.Refusal.{Refusal}
 use Rattle.telling.specs.declared.Judged.{Judged}
 use Rattle.telling.specs.declared.Swept.{Swept}
 use Rattle.telling.specs.declared.RowShown.{RowShown}
+use Rattle.telling.specs.declared.Projected.{Projected}
 use Rattle.telling.specs.declared.System.{System}
 
 abbrev pub none : Refusal
 none = record { number = 0; place = 0 }
 
--- Number and place of a refusal; 1 where the mean passes; and a count: the first part that fails, or the sweeps run since open.
+-- Number and place of a refusal; 1 where the mean passes; a count: the first part that fails, or the sweeps run since open; and a figure.
 pub record Numbers : Type 0 where
   pub number : ℕ
   pub place : ℕ
   pub passing : ℕ
   pub count : ℕ
+  pub figure : Ultimate
+
+abbrev noFigure : Ultimate
+noFigure = record { floor = pos 0; remainder = 0; divisor = 0 }
 
 abbrev numbers : ℕ → ℕ → ℕ → ℕ → Numbers
-numbers number place passing count = record { number = number; place = place; passing = passing; count = count }
+numbers number place passing count = record { number = number; place = place; passing = passing; count = count; figure = noFigure }
 
 abbrev pub told : Answer → Numbers
 told (refused number place) = numbers number place 0 0
@@ -35,6 +42,7 @@ told (judged (fails k)) = numbers 0 0 0 k
 told (settled total) = numbers 0 0 1 total
 told (going total) = numbers 0 0 0 total
 told written = numbers 0 0 0 0
+told (ultimate-is r) = record { number = 0; place = 0; passing = 0; count = 0; figure = r }
 told (part-shown bytes) = numbers 0 0 0 0
 told row-is-shown = numbers 0 0 0 0
 told closed = numbers 0 0 0 0
@@ -49,6 +57,14 @@ judgeTold a = record { refusal = refusalTold a; passed = told a .passing; part =
 
 abbrev pub sweepTold : Answer → Swept
 sweepTold a = record { refusal = refusalTold a; settled = told a .passing; total = told a .count }
+
+abbrev pub ultimateTold : Answer → Projected
+ultimateTold a = record {
+  refusal = refusalTold a;
+  floor = told a .figure .floor;
+  remainder = told a .figure .remainder;
+  divisor = told a .figure .divisor;
+}
 
 -- a row of a file with this J: where it stands, or why it is refused
 abbrev pub rowTold : ℕ → ℕ → ℕ → Check → RowShown

@@ -4,9 +4,11 @@ ghost use Rattle.opening.specs.Opens.{ofOpen};
 ghost use Rattle.judging.specs.Judges.{ofJudge};
 ghost use Rattle.sweeping.specs.Sweeps.{ofSweep};
 ghost use Rattle.writing.specs.Writes.{ofWrite};
-ghost use Rattle.telling.specs.Told.{refusalTold, judgeTold, sweepTold, figuresTold, systemTold};
+ghost use Rattle.projecting.specs.Projects.{ofProject};
+ghost use Rattle.telling.specs.Told.{refusalTold, judgeTold, sweepTold, figuresTold, systemTold, ultimateTold};
 use judging::JudgeAnswer;
 use opening::OpenAnswer;
+use projecting::UltimateAnswer;
 use showing::FiguresAnswer;
 use showing::Showing;
 use sweeping::SweepAnswer;
@@ -40,6 +42,15 @@ pub struct RowShown {
     pub refusal: Refusal,
     pub start: u64,
     pub length: u64,
+}
+
+// A central ultimate in ticks: floor and remainder over the divisor.
+#[repr(C)]
+pub struct Projected {
+    pub refusal: Refusal,
+    pub floor: i64,
+    pub remainder: u64,
+    pub divisor: u64,
 }
 
 // The figures of the open file, in arrays of the largest size: row k, column l of the matrix at 31·k + l.
@@ -90,6 +101,26 @@ fn swept_as(number: u64, place: usize, settled: u64, total: u64) -> Swept
     }
 }
 
+fn projected_as(number: u64, place: usize, floor: i64, remainder: u64, divisor: u64) -> Projected
+    ensures { λ r. ⌜ r ≡ record {
+      refusal = record { number = number; place = place };
+      floor = floor;
+      remainder = remainder;
+      divisor = divisor;
+    } ⌝ }
+{
+    let refusal = Refusal {
+        number: number,
+        place: place as u64,
+    };
+    Projected {
+        refusal: refusal,
+        floor: floor,
+        remainder: remainder,
+        divisor: divisor,
+    }
+}
+
 pub fn open_told(a: OpenAnswer) -> Refusal
     ensures { λ r. ⌜ r ≡ refusalTold (ofOpen a) ⌝ }
 {
@@ -125,6 +156,17 @@ pub fn write_told(a: WriteAnswer) -> Refusal
     match a {
         WriteAnswer::Written => refusal_of(0, 0),
         WriteAnswer::Refused(number, place) => refusal_of(number, place),
+    }
+}
+
+pub fn ultimate_told(a: UltimateAnswer) -> Projected
+    ensures { λ r. ⌜ r ≡ ultimateTold (ofProject a) ⌝ }
+{
+    match a {
+        UltimateAnswer::Central(found) => {
+            projected_as(0, 0, found.floor, found.remainder, found.divisor)
+        }
+        UltimateAnswer::Refused(number, place) => projected_as(number, place, 0, 0, 0),
     }
 }
 

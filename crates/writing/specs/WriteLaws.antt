@@ -1,6 +1,7 @@
 -- The machine's outcome of a call that writes, case by case: what the call shows of its answer. Each carries what the mean is worth.
 use Prim.Native.Nat.{ℕ, _≤_, _<_}
-use mathlib.Core.Path.{_≡_, refl, sym, ap, ap₂, subst, _∙_}
+use mathlib.Core.Path.{_≡_, refl, sym, ap, _∙_}
+use mathlib.Core.Logic.{_⊎_, inl, inr}
 use mathlib.Core.Bool.{Bool, true, false, not, cond}
 use mathlib.Core.List.{List, _++_}
 use native.Mathlib.Omega.{arith}
@@ -14,11 +15,12 @@ use Rattle.definitions.specs.Matrix as D
 use Rattle.definitions.specs.Matrix.{passes}
 use Rattle.definitions.specs.Machine.{Answer, written, refused, holds, Outcome, writes, writeCall}
 use Rattle.layout.specs.declared.checks.Check.{Check}
-use Rattle.layout.specs.declared.checks.Check.the-variants.{Clear, Refuses}
+use Rattle.layout.specs.declared.checks.Check.the-variants.{Refuses}
 use Rattle.chain.specs.Arrays.{figuresOf, meanOf}
 use Rattle.holding.specs.State.{Held, Fits, stateHeld, stateOf}
 use Rattle.holding.specs.StateLaws.{stateOf-held, stateOf-empty}
 use Rattle.holding.specs.Worth.{worth}
+use Rattle.holding.specs.Passing.{Passing, heldPasses}
 use Rattle.writing.specs.declared.WriteAnswer.{WriteAnswer}
 use Rattle.writing.specs.declared.WriteAnswer.the-variants.{Written, Refused}
 use Rattle.writing.specs.Writes.{ofWrite, Text, writesTo, Writes}
@@ -86,39 +88,12 @@ module _ (size : ℕ → ℕ) (text : Text) (s : Held) (before : Bytes) where
       unfolding writeCall figuresOf
       writes-written long = let l = le-ltb _ _ long in writes-as _ _ (rw (is-open, p, l) refl) (rw (is-open, p, l) refl)
 
--- ---- what 21 and 24 tell
-
--- of a session that is refused with one of them, whatever was to be written; of another that its mean passes
-pub record Passing (s : Held) (c : Check) : Type 0 where
-  pub refused : (number place : ℕ) → c ≡ Refuses number place → (size : ℕ → ℕ) (text : Text) (before : Bytes)
+  -- what 21 and 24 refuse, whatever was to be written
+  pub writes-refused : {c : Check} → Passing s c → {number place : ℕ} → c ≡ Refuses number place
       → Writes size text s before (Refused number place) before
-  pub fits : c ≡ Clear → Fits s
-  pub passing : c ≡ Clear → passes (figuresOf (s .figures)) (part (meanOf (s .figures .last) (s .mean))) ≡ true
-
-clear-refuses : {number place : ℕ} → _≡_ {A = Check} Clear (Refuses number place) → ⊥
-clear-refuses e = let z : _≡_ {A = ℕ} 0 1 = cc in omega arith
-
-refuses-same : {n m p q : ℕ} → Refuses n p ≡ Refuses m q → (n ≡ m) × (p ≡ q)
-refuses-same e = (cc, cc)
-
--- one of the two refusals
-passing-refused : {s : Held} (number : ℕ)
-    → ((size : ℕ → ℕ) (text : Text) (before : Bytes) → Writes size text s before (Refused number 0) before)
-    → Passing s (Refuses number 0)
-passing-refused {s} number told = record {
-  refused = λ n p e size text before.
-      let same = refuses-same e in
-      subst (λ a. Writes size text s before a before) (ap₂ Refused (same .0) (same .1)) (told size text before);
-  fits = λ e. absurd (clear-refuses (sym e));
-  passing = λ e. absurd (clear-refuses (sym e));
-}
-
-pub passing-closed : {s : Held} → ¬ Fits s → Passing s (Refuses 21 0)
-passing-closed {s} h = passing-refused 21 (λ size text before. writes-closed size text s before h)
-
-module _ {s : Held} (h : Fits s) where
-  pub passing-failing : passes (figuresOf (s .figures)) (part (meanOf (s .figures .last) (s .mean))) ≡ false → Passing s (Refuses 24 0)
-  passing-failing p = passing-refused 24 (λ size text before. writes-failing size text s before h p)
-
-  pub passing-held : passes (figuresOf (s .figures)) (part (meanOf (s .figures .last) (s .mean))) ≡ true → Passing s Clear
-  passing-held p = record { refused = λ n q e. absurd (clear-refuses e); fits = λ e. h; passing = λ e. p }
+  writes-refused checked {number} {place} e = by-cause (checked .refused number place e)
+    where
+      by-cause : (place ≡ 0) × (((number ≡ 21) × ¬ Fits s) ⊎ ((number ≡ 24) × Fits s × (heldPasses s ≡ false)))
+          → Writes size text s before (Refused number place) before
+      by-cause (none, inl (is-21, closed)) = rw (is-21, none) (writes-closed closed)
+      by-cause (none, inr (is-24, open-file, failing)) = rw (is-24, none) (writes-failing open-file failing)

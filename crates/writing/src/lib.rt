@@ -1,10 +1,7 @@
 // The calls `read` and `page`, over a session whose arrays are lent: the mean that is held is written to a buffer, if it passes.
 ghost use Rattle.holding.specs.State.{heldAt};
-ghost use Rattle.writing.specs.WriteLaws.{Passing};
 ghost use Rattle.writing.specs.Writes.{Reads, Pages};
-use chain::judge::passes;
-use chain::residues::residues;
-use holding::bounds::frame_fits;
+use holding::passing::check_passing;
 use layout::checks::Check;
 use layout::places::record_length;
 use pages::page_length;
@@ -15,33 +12,6 @@ pub enum WriteAnswer {
     Written,
     // The specification's number and place.
     Refused(u64, usize),
-}
-
-// 21, 24: what is asked before anything of the mean is written.
-fn check_passing<'a>(
-    last: usize,
-    closeness: u64,
-    total: u64,
-    own: &'a [u64; 31],
-    matrix: &'a [i64; 961],
-    right_hand: &'a [i64; 31],
-    mean: &'a [i64; 31],
-) -> Check
-    ensures { λ r. ⌜ Passing
-        (heldAt last closeness total (now (own .entry)) (now (matrix .entry)) (now («right_hand» .entry)) (now (mean .entry)))
-        r ⌝ }
-{
-    if !frame_fits(last, closeness, total, own, matrix, right_hand, mean) {
-        return Check::Refuses(21, 0);
-    }
-    let tested = residues(last, matrix, right_hand, mean);
-    if !tested.fit {
-        return Check::Refuses(21, 0);
-    }
-    if !passes(last, closeness, own, &tested.residues) {
-        return Check::Refuses(24, 0);
-    }
-    Check::Clear
 }
 
 // 21, 24, 13. The record at the front of the buffer; the bytes behind it stay.

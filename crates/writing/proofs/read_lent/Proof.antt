@@ -18,7 +18,7 @@ use Rattle.holding.specs.State.{Held, Fits, heldAt}
 use Rattle.holding.specs.Fitted.{frame}
 use Rattle.writing.specs.declared.WriteAnswer.the-variants.{Written}
 use Rattle.writing.specs.Writes.{Reads}
-use Rattle.writing.specs.WriteLaws.{writes-short, writes-written}
+use Rattle.writing.specs.WriteLaws.{writes-refused, writes-short, writes-written}
 use Rattle.writing.proofs.read_lent.Statement.{statement}
 use Rattle.writing.proofs.read_lent.Tie as tie
 
@@ -31,7 +31,7 @@ enum-known-checked c = search needs
 returns : tie.Need-returns
 returns c =
     let refused = c .before in
-    refused .before .before .check-passing .ensures .refused _ _ (refused .checked .given .1) recordLength recordIn _
+    writes-refused recordLength recordIn _ _ (refused .before .before .check-passing .ensures) (refused .checked .given .1)
 
 enum-told : tie.Need-enum-told
 enum-told c = search needs

@@ -4,9 +4,9 @@ use borrow.Author.Needs.{needs}
 use lib.IntN.{pos, negsuc}
 use lib.Signed.{ltZ}
 use mir.Facts.{toZ-ofZ}
-use Rattle.steps.specs.BroughtBack.{above-limit, below-limit, within-limits}
-use Rattle.steps.proofs.step.brought_back.Statement.{statement}
-use Rattle.steps.proofs.step.brought_back.Tie as tie
+use Rattle.arithmetic.specs.BroughtBack.{above-limit, below-limit, within-limits}
+use Rattle.arithmetic.proofs.limits.brought_back.Statement.{statement}
+use Rattle.arithmetic.proofs.limits.brought_back.Tie as tie
 
 sub-if2 : tie.Need-sub-if2
 sub-if2 c = search needs

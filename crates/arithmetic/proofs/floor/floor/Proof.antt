@@ -12,8 +12,8 @@ use mir.Facts.{toZ-ofZ}
 use Rattle.integers.specs.Floor.{floorDiv}
 use Rattle.integers.specs.Size.{fits, kept}
 use Rattle.integers.specs.Bits.{stored, Negative, Nonnegative, negative, nonnegative, complement-negative, complement-nonnegative}
-use Rattle.steps.proofs.step.floor.Statement.{statement}
-use Rattle.steps.proofs.step.floor.Tie as tie
+use Rattle.arithmetic.proofs.floor.floor.Statement.{statement}
+use Rattle.arithmetic.proofs.floor.floor.Tie as tie
 
 -- a positive divisor
 

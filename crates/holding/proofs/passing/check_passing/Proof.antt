@@ -8,11 +8,11 @@ use Rattle.chain.specs.Arrays.{figuresOf, meanOf}
 use Rattle.chain.specs.Decides.{not-yes, not-no}
 use Rattle.chain.specs.Judge as J
 use Rattle.chain.specs.Judge.{own-fits}
 use Rattle.holding.specs.State.{Held, Fits, heldAt}
 use Rattle.holding.specs.Fitted.{Framed, asks-residues, held-inside, fits, frame, rows}
-use Rattle.writing.specs.WriteLaws.{passing-closed, passing-failing, passing-held}
-use Rattle.writing.proofs.check_passing.Statement.{statement}
-use Rattle.writing.proofs.check_passing.Tie as tie
+use Rattle.holding.specs.Passing.{passing-closed, passing-failing, passing-held}
+use Rattle.holding.proofs.passing.check_passing.Statement.{statement}
+use Rattle.holding.proofs.passing.check_passing.Tie as tie
 
 frame-fits-requires : tie.Need-frame-fits-requires
 frame-fits-requires c κs = search needs

@@ -1,0 +1,3 @@
+pub mod BroughtBack
+pub mod Wide
+pub mod WideLaws

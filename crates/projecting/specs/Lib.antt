@@ -1,0 +1,4 @@
+pub mod Central
+pub mod CentralLaws
+pub mod Projects
+pub mod ProjectLaws
