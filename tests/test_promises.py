@@ -206,7 +206,7 @@ class Promises(unittest.TestCase):
             self.assertRegex(text_of("test"), rf"(?m)^ *(?:if .*; then )?{re.escape(command)}")
         for step in ("replay", "list", "write"):
             self.assertIn(f'\n{step}\n{step} "${{watched[@]}}"\n', text_of("tests/c/run"))
-        for step in ("desk_test", "spoiled_test"):
+        for step in ("desk_test", "ultimate_test", "spoiled_test"):
             self.assertRegex(text_of("tests/c/run"), rf'(?m)^\w+=\$\("\$built/{step}"')
             self.assertIn(f'\n"${{watched[@]}}" "$built/{step}"', text_of("tests/c/run"))
         for step in ("header_test_c", "header_test_cpp"):

@@ -1,7 +1,8 @@
 """The reserves of the paper's Table 3, last column, from its Tables 2, 10 and 11: `python3 python/examples/table_3.py`.
 
-The desk settles the posterior mean; formula (3.7) of the paper then gives each accident year's expected ultimate in floats.
-What is paid already goes off, and what is left is printed beside the paper's figure.
+The desk settles the posterior mean, and gives each accident year's central ultimate by it, exact as a logarithm: `exp` of that is a
+median. Formula (3.7) of the paper gives the expected ultimate, in floats. Of both what is paid already goes off, and what is left is printed
+beside the paper's figure.
 """
 
 import sys
@@ -13,10 +14,11 @@ ROOT = Path(__file__).resolve().parents[2]
 sys.path[1:1] = [str(ROOT / "python"), str(ROOT / "reference")]
 
 from paper import INCURRED, PAID, RESERVES, RESERVES_TOTAL, SIGMA, TAU  # the tables, and nothing else of the reference
-from reserving_desk import Mean, Session, file_of, natural_log, squared_ticks
+from reserving_desk import Mean, Session, Ultimate, file_of, natural_log, squared_ticks
 
 LAST = len(PAID) - 1  # J
 CLOSENESS = 256  # in ticks: the sample's
+WHY = "left and Table 3 differ: the mean of a log-normal is above its median, which central is; prediction error is left out of it"
 
 # Table 2 prints deviations in units of 0.0001; here they are variances of natural logarithms.
 SIGMA_SQUARED = [(deviation / 10_000) ** 2 for deviation in SIGMA]
@@ -35,12 +37,13 @@ def tables_file() -> bytes:
     )
 
 
-def settled_mean(file: bytes) -> Mean:
+def settled(file: bytes) -> tuple[Mean, list[Ultimate]]:
+    """The mean, and by it the central ultimate of each accident year but 0, which is closed."""
     with Session() as desk:
         desk.open(file)
         while not desk.sweep(1).settled:  # Refused, with number 23, if 4,096 sweeps are not enough
             pass
-        return desk.read()
+        return desk.read(), [desk.ultimate(year) for year in range(1, LAST + 1)]
 
 
 def to_come(year: int, phi: float, psi: float) -> list[float]:
@@ -82,7 +85,7 @@ def product(a: Sequence[float], b: Sequence[float]) -> float:
     return sum(x * y for x, y in zip(a, b))
 
 
-def ultimate(mean: Mean, year: int) -> float:
+def expected_ultimate(mean: Mean, year: int) -> float:
     """Formula (3.7)."""
     sigma_squared, tau_squared = variances_to_come(year)
     beta = sigma_squared / (sigma_squared + tau_squared)
@@ -94,12 +97,16 @@ def ultimate(mean: Mean, year: int) -> float:
 
 
 def main() -> None:
-    mean = settled_mean(tables_file())
-    reserves = [ultimate(mean, year) - PAID[year][-1] for year in range(1, LAST + 1)]
-    rows = [(str(year), *pair) for year, pair in enumerate(zip(reserves, RESERVES), start=1)]
-    print(f"{'year':>5} {'reserve':>12} {'Table 3':>12} {'apart':>9}")
-    for year, reserve, printed in rows + [("total", sum(reserves), RESERVES_TOTAL)]:
-        print(f"{year:>5} {reserve:12,.0f} {printed:12,} {100 * (reserve - printed) / printed:8.4f}%")
+    mean, ultimates = settled(tables_file())
+    paid = [PAID[year][-1] for year in range(1, LAST + 1)]
+    central = [exp(ultimate.natural_log) for ultimate in ultimates]
+    reserves = [expected_ultimate(mean, year) - PAID[year][-1] for year in range(1, LAST + 1)]
+    rows = [(str(year), *row) for year, row in enumerate(zip(paid, central, reserves, RESERVES), start=1)]
+    print(f"{'year':>5} {'paid':>12} {'central':>12} {'left':>12} {'reserve':>12} {'Table 3':>12} {'apart':>9}")
+    for year, already, median, reserve, printed in rows + [("total", sum(paid), sum(central), sum(reserves), RESERVES_TOTAL)]:
+        apart = 100 * (reserve - printed) / printed
+        print(f"{year:>5} {already:12,} {median:12,.0f} {median - already:12,.0f} {reserve:12,.0f} {printed:12,} {apart:8.4f}%")
+    print(WHY)
 
 
 if __name__ == "__main__":

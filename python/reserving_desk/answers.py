@@ -6,7 +6,7 @@ from dataclasses import dataclass
 from fractions import Fraction
 from typing import Optional
 
-from . import scales
+from .scales import TICKS_PER_UNIT
 
 
 @dataclass(frozen=True)
@@ -35,8 +35,8 @@ class Sweeping:
 class Ultimate:
     """The central ultimate of an accident year: the logarithm of what it is expected to come to, exact.
 
-    It is `floor` + `remainder` / `divisor` ticks, the remainder from 0 to the divisor less 1. Where it is left as a logarithm it has no
-    error; `exp` of the natural one is the median of the ultimate, in floats, and in the unit of the file's amounts.
+    It is `floor` + `remainder` / `divisor` ticks, the remainder from 0 to the divisor less 1. `exp` of the natural logarithm is the median
+    of what the year comes to, in floats and in the unit of the file's amounts.
     """
 
     floor: int
@@ -45,12 +45,13 @@ class Ultimate:
 
     @property
     def ticks(self) -> Fraction:
-        """All of it, as one fraction."""
+        """As one fraction."""
         return self.floor + Fraction(self.remainder, self.divisor)
 
     @property
     def natural_log(self) -> float:
-        return scales.natural_log(self.ticks)
+        """To the nearest float."""
+        return float(self.ticks / TICKS_PER_UNIT)
 
 
 @dataclass(frozen=True)

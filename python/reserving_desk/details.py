@@ -71,7 +71,7 @@ def refused_buffer(refusal: Refusal, size: int, thing: str, length: Callable[[in
 
 def refused_ultimate(refusal: Refusal, year: int, last: int) -> Refused:
     """Of a session whose J is `last`."""
-    details = _outside("accident year", year, f"{limits(1, last)}, as J is {last}") if refusal.number == 25 else Details()
+    details = _year_outside(year, 1, last) if refusal.number == 25 else Details()
     return Refused(refusal.number, refusal.place, *details)
 
 
@@ -79,16 +79,19 @@ def refused_row(refusal: Refusal, file: bytes, channel: int, year: int) -> Refus
     if refusal.number == 14:
         return Refused(14, refusal.place, *_outside("channel", channel, f"{PAID} and {INCURRED}"))
     if refusal.number == 15:
-        last = last_year_of(file)
-        return Refused(15, refusal.place, *_outside("accident year", year, f"{limits(0, last)}, as J is {last}"))
+        return Refused(15, refusal.place, *_year_outside(year, 0, last_year_of(file)))
     return refused_file(refusal, file)
 
 
-def _outside(name: str, value: int, told: str, unit: Unit = Unit.NUMBER) -> Details:
+def _year_outside(year: int, first: int, last: int) -> Details:
+    return _outside("accident year", year, limits(first, last), because=f", as J is {last}")
+
+
+def _outside(name: str, value: int, told: str, unit: Unit = Unit.NUMBER, because: str = "") -> Details:
     subject = name if name.split(" ")[0] in WITHOUT_ARTICLE else f"the {name}"
     subject += "," if "," in name else ""  # which closes "accident year 1, development year 0"
     verb = "is" if told.isdigit() else "are"
-    return Details(name, value, told, f"{subject} is {measured(value, unit)}; allowed {verb} {told}")
+    return Details(name, value, told + because, f"{subject} is {measured(value, unit)}; allowed {verb} {told}{because}")
 
 
 def _field_at(place: int, lent: bytes, fields: Iterable[Field]) -> Details:

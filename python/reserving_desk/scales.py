@@ -37,13 +37,13 @@ def ticks(natural: Number) -> int:
     return round(_exact("natural", natural) * TICKS_PER_UNIT)
 
 
-def natural_log(count: Union[int, Fraction]) -> float:
-    """The natural logarithm that so many ticks are: a whole number of them, or a fraction."""
-    number = count if isinstance(count, Fraction) else Fraction(whole("count", count))
+def natural_log(count: int) -> float:
+    """The natural logarithm that so many ticks are."""
+    number = whole("count", count)
     try:
         return float(number / TICKS_PER_UNIT)
     except OverflowError:
-        raise ValueError(f"count must be a number that a float can hold, not one of {int(number).bit_length():,} bits") from None
+        raise ValueError(f"count must be a number that a float can hold, not one of {number.bit_length():,} bits") from None
 
 
 def _exact(name: str, given: Number) -> Fraction:

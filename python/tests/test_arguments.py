@@ -53,12 +53,15 @@ class OfCalls(Named):
             for name, call in calls.items():
                 with self.assertRaisesRegex(TypeError, f"^{name} must be a whole number, not "):
                     call()
+            with self.assertRaisesRegex(TypeError, "^year must be a whole number, not "):
+                desk.ultimate(wrong)
         self.assert_told(TypeError, "n must be a whole number, not 1.5", desk.sweep, 1.5)
 
     def test_whole_numbers_by_their_index(self) -> None:
         n: Any = Number(1)
         self.assertEqual(opened().sweep(n).total, 0)
         self.assertEqual(opened().row(F, n, n), (1 << 12,))
+        self.assertEqual(opened().ultimate(n), opened().ultimate(1))
 
     def test_negative(self) -> None:
         self.assert_told(ValueError, "channel must be at least 0, not -1", Session().row, F, -1, 0)

@@ -106,6 +106,8 @@ class OfOtherArguments(unittest.TestCase):
         self.assert_said(lambda: desk.row(F, 2, 0), f"refused 14 at 0: the channel must be 0 (paid) or 1 (incurred) ({said})")
         said = "the accident year is 2; allowed are 0 to 1, as J is 1"
         self.assert_said(lambda: desk.row(F, 0, 2), f"refused 15 at 0: the file has no such accident year ({said})")
+        said = "the accident year is 0; allowed is 1, as J is 1"
+        self.assert_said(lambda: desk.ultimate(0), f"refused 25 at 0: the accident year must be from 1 to J ({said})")
 
     def test_buffer(self) -> None:
         words = "refused 13 at 0: the buffer is too short for what is to be written"

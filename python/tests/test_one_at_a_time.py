@@ -30,6 +30,7 @@ EXAMPLES: dict[str, Callable[[Session], object]] = {
     "read_into": lambda desk: desk.read_into(bytearray(40)),
     "page": lambda desk: desk.page(),
     "page_into": lambda desk: desk.page_into(bytearray(100)),
+    "ultimate": lambda desk: desk.ultimate(1),
     "figures": lambda desk: desk.figures(),
     "row": lambda desk: desk.row(FILE, 0, 0),
     "close": lambda desk: desk.close(),

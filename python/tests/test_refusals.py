@@ -81,6 +81,10 @@ class ByNumber(unittest.TestCase):
             ((14, "channel", 2), lambda: Session().row(FILE, 2, LAST + 1)),
             ((14, "channel", 1 << 70), lambda: Session().row(FILE, 1 << 70, 0)),
             ((15, "accident year", LAST + 1), lambda: Session().row(FILE, 1, LAST + 1)),
+            ((25, "accident year", 0), lambda: opened(F).ultimate(0)),
+            ((25, "accident year", 2), lambda: opened(F).ultimate(2)),
+            ((25, "accident year", -1), lambda: opened(F).ultimate(-1)),
+            ((25, "accident year", (1 << 64) + 1), lambda: opened(F).ultimate((1 << 64) + 1)),
         ):
             refused = refusal_of(call)
             self.assertEqual((refused.number, refused.field, refused.value), expected)
@@ -93,10 +97,14 @@ class ByNumber(unittest.TestCase):
             21: (
                 lambda: Session().judge(RECORD), lambda: Session().judge(b""), lambda: Session().sweep(0),
                 Session().read, lambda: Session().read_into(bytearray()), Session().page, lambda: Session().page_into(bytearray()),
+                lambda: Session().ultimate(1), lambda: Session().ultimate(0),
             ),
             22: (lambda: spent.open(FILE), lambda: spent.open(b"")),
             23: (spent.sweep,),
-            24: (spent.read, lambda: spent.read_into(bytearray()), spent.page, lambda: spent.page_into(bytearray())),
+            24: (
+                spent.read, lambda: spent.read_into(bytearray()), spent.page, lambda: spent.page_into(bytearray()),
+                lambda: spent.ultimate(1), lambda: spent.ultimate(0),
+            ),
         }
         for number, refused_calls in calls.items():
             for refused in map(refusal_of, refused_calls):

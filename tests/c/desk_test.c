@@ -10,7 +10,7 @@ static const struct { writing *call; size_t length; const char *written; } WRITI
     {desk_page, F_PAGE, "phi  0  10485760     131073\nphi  1   1048576      65537\npsi  0  -1048576      65537\n"},
 };
 
-/* They are refused so, with room and without, and leave the buffer as it was. */
+/* They are refused so, with room and without, and leave the buffer as it was; and so is an ultimate, of whatever year. */
 static void expect_writing_refused(const desk_session *s, uint64_t number) {
     uint8_t buffer[DESK_LONGEST_PAGE], untouched[DESK_LONGEST_PAGE];
     memset(buffer, 0xA5, sizeof buffer);
@@ -21,6 +21,8 @@ static void expect_writing_refused(const desk_session *s, uint64_t number) {
         EXPECT_REFUSED(s, WRITING[k].call(s, NULL, 0), number, 0);
     }
     EXPECT(memcmp(buffer, untouched, sizeof buffer) == 0);
+    EXPECT_REFUSED(s, desk_ultimate(s, 1).refusal, number, 0);
+    EXPECT_REFUSED(s, desk_ultimate(s, 0).refusal, number, 0);
 }
 
 static void expect_fails(desk_judgement answer, uint64_t part) {

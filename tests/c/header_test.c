@@ -28,7 +28,7 @@ static void test_words(void) {
     EXPECT(strcmp(desk_refusal_text(UINT64_MAX), "no such refusal") == 0);
     for (uint64_t number = 1; number < 64; number++) {
         const char *words = desk_refusal_text(number);
-        const int is_refusal = number <= 15 || (number >= 21 && number <= 24);
+        const int is_refusal = number <= 15 || (number >= 21 && number <= 25);
         EXPECT(is_ascii(words) && strlen(words) > 0);
         EXPECT((strcmp(words, "no such refusal") != 0) == is_refusal);
         for (uint64_t other = 0; is_refusal && other < number; other++) EXPECT(strcmp(words, desk_refusal_text(other)) != 0);

@@ -77,6 +77,13 @@ static int answers_writing(const desk_session *s, writing *call, const char *ans
     return refused;
 }
 
+static int answers_ultimate(const desk_session *s) {
+    const desk_projection found = desk_ultimate(s, number());
+    if (is_refused(found.refusal)) return 1;
+    printf("ultimate %" PRId64 " %" PRIu64 "\n", found.floor, found.remainder);
+    return 0;
+}
+
 static void print_numbers(const char *name, const int64_t *numbers, uint64_t count) {
     printf("%s", name);
     for (uint64_t k = 0; k < count; k++) printf(" %" PRId64, numbers[k]);
@@ -114,6 +121,7 @@ static int answers(int letter, desk_session *s) {
     case 's': return answers_sweep(s);
     case 'r': return answers_writing(s, desk_read, "read");
     case 'p': return answers_writing(s, desk_page, "page");
+    case 'u': return answers_ultimate(s);
     case 'f': return answers_figures(s);
     case 'w': return answers_row();
     case 'c': desk_close(s); printf("closed\n"); return 0;

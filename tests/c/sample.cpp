@@ -84,6 +84,18 @@ void expect_page(const desk_session *session, const desk_system &shown, const By
     for (std::size_t k = width * parts; k < page.size(); k++) expect(page[k] == 0xA5, "the bytes behind a page are untouched");
 }
 
+// A figure for each year but the closed one.
+void expect_ultimates(const desk_session *session, std::size_t last) {
+    for (std::size_t year = 1; year <= last; year++) {
+        const desk_projection found = desk_ultimate(session, year);
+        expect(found.refusal.number == 0, "a year of the file has an ultimate");
+        expect(found.remainder < found.divisor, "the remainder is below the divisor");
+        expect(found.floor > 0 && found.floor < 44 << 20, "an ultimate of the sample is an amount that a file can have");
+    }
+    expect(desk_ultimate(session, 0).refusal.number == 25, "year 0 is closed");
+    expect(desk_ultimate(session, last + 1).refusal.number == 25, "no other year has one");
+}
+
 void print_parts(const char *name, const Bytes &record, std::size_t first, std::size_t count) {
     for (std::size_t k = 0; k < count; k++) {
         std::printf("%s %zu %ld\n", name, k, static_cast<long>(field(record, 5 + 4 * (first + k))));
@@ -108,6 +120,7 @@ int main(int count, char **arguments) {
     expect(shown.closeness == static_cast<std::uint64_t>(field(file, 6)), "so is its closeness");
     expect_passes(shown, record);
     expect_page(&session, shown, record);
+    expect_ultimates(&session, last);
     std::printf("J %zu\nsweeps %llu\n", last, static_cast<unsigned long long>(swept.total));
     print_parts("phi", record, 0, last + 1);
     print_parts("psi", record, last + 1, last);

@@ -21,7 +21,8 @@ static int are_lines(const uint8_t page[DESK_LONGEST_PAGE], size_t length) {
     return 1;
 }
 
-/* A record and a page are refused alike; where they are not, the page has a line for each part, and nothing is written behind. */
+/* A record, a page and an ultimate are refused alike; where they are not, the page has a line for each part, nothing is written behind,
+ * and the ultimate is inside what its limits allow. */
 static void expect_written_alike(const desk_session *s) {
     static const uint64_t WRITE[] = {21, 24, 0};
     uint8_t record[DESK_LONGEST_RECORD], page[DESK_LONGEST_PAGE] = {0};
@@ -29,6 +30,10 @@ static void expect_written_alike(const desk_session *s) {
     EXPECT(is_one_of(number, WRITE));
     EXPECT(desk_read(s, record, sizeof record).number == number);
     EXPECT(are_lines(page, number == 0 ? 28 * (2 * s->held[0] + 1) : 0));
+    const desk_projection found = desk_ultimate(s, number == 0 ? s->held[0] : drawn());
+    EXPECT(found.refusal.number == number && found.refusal.place == 0);
+    EXPECT(llabs(found.floor) <= 16 * MOST_PART && found.divisor <= UINT64_C(30) << 40);
+    EXPECT(number == 0 ? found.remainder < found.divisor : found.floor == 0 && found.remainder == 0 && found.divisor == 0);
 }
 
 /* Of a file with one of its fields spoiled, each of the checks 1 to 10 in turn, an open leaves every byte of the session. */
