@@ -1,9 +1,10 @@
 """What definitions, laws and contracts say, to the letter. `test_promises` compares it; a bar stands before whatever is in no module,
 and at the end.
 
-Of the definitions: how the fields of a file are read, how a logarithm is found, the observations, the loss, the figures and what a session
-keeps, and the checks 1 to 10, since a mistake that definition and code share would be proved. Of the laws: what is asked of a chain, and of
-what is kept. Of contracts: what arrays stand for, what figures are made of, what open promises, and the sizes that are told.
+Of the definitions: how the fields of a file are read, how a logarithm is found, the observations, the loss, the figures, the central
+ultimate with its call, what a session keeps, and the checks 1 to 10, since a mistake that definition and code share would be proved. Of
+the laws: what is asked of a chain, and of what is kept. Of contracts: what arrays stand for, what figures are made of, what open and
+ultimate promise, what C is told of an ultimate, and the sizes that are told.
 """
 
 DEFINED = {
@@ -155,6 +156,31 @@ DEFINED = {
         "| abbrev pub passes : Figures → Vector → Bool "
         "| passes F u = isPassed (judgement F u) |",
     ),
+    "definitions/Ultimate": (
+        "| pub record Latest : Type 0 where pub logPaid : ℕ → ℤ pub logIncurred : ℕ → ℤ pub varianceΦ : ℕ → ℕ pub varianceΨ : ℕ → "
+        "ℕ | abbrev pub latestOf : Bytes → Latest | latestOf f = record { logPaid = λ i. logOf (paid f i (lastYear f - i)); "
+        "logIncurred = λ i. logOf (incurred f i (lastYear f - i)); varianceΦ = σ² f; varianceΨ = τ² f; | } | pub record Ultimate "
+        ": Type 0 where pub floor : ℤ pub remainder : ℕ pub divisor : ℕ | pub record Divided (numerator : ℤ) (r : Ultimate) : "
+        "Type 0 where pub whole : r .floor *ℤ pos (r .divisor) +ℤ pos (r .remainder) ≡ numerator pub below : r .remainder < r "
+        ".divisor | module _ (J : ℕ) (a : Latest) (i : ℕ) where unfoldable pub paidVariance : ℕ paidVariance = total i (λ m. a "
+        ".varianceΦ (J - i + 1 + m)) unfoldable pub incurredVariance : ℕ incurredVariance = total i (λ n. a .varianceΨ (J - i + "
+        "n)) unfoldable pub paidUltimate : Vector → ℤ paidUltimate u = a .logPaid i +ℤ sum i (λ m. u (J - i + 1 + m)) unfoldable "
+        "pub incurredUltimate : Vector → ℤ incurredUltimate u = a .logIncurred i +ℤ sum i (λ n. u (psiIndex J (J - i + n))) "
+        "abbrev pub numerator : Vector → ℤ numerator u = pos incurredVariance *ℤ paidUltimate u +ℤ pos paidVariance *ℤ "
+        "incurredUltimate u abbrev pub bothVariances : ℕ bothVariances = paidVariance + incurredVariance unfoldable pub "
+        "ultimateOf : Vector → Ultimate ultimateOf u = let floor = shrZ (numerator u) bothVariances in record { floor = floor; "
+        "remainder = natAbs (numerator u -ℤ floor *ℤ pos bothVariances); divisor = bothVariances } |",
+    ),
+    "definitions/Machine": (
+        "| pub record Keeping (X : Type 0) : Type 0 where pub keep : Bytes → X pub figures : X → Figures pub priorMeans : X → "
+        "List ℤ pub latest : X → Latest |",
+        "| unfoldable pub ultimateCall : {X : Type 0} → (X → Figures) → (X → Latest) → State X → ℕ → Answer | ultimateCall "
+        "figures latest empty year = refused 21 0 | ultimateCall figures latest (holds x μ total) year = cond (not (passes "
+        "(figures x) (part μ))) (refused 24 0) (cond (not (within 1 (figures x .last) year)) (refused 25 0) (ultimate-is "
+        "(ultimateOf (figures x .last) (latest x) year (part μ)))) |",
+        "| abbrev pub theFile : Keeping Bytes | theFile = record { keep = λ f. f; figures = figuresOf; priorMeans = λ f. tabFrom "
+        "0 (parts (lastYear f)) (priorMean f); latest = latestOf; | } |",
+    ),
     "definitions/Kept": (
         "| pub record Observed : Type 0 where pub logarithms : List ℤ pub variances : List ℕ pub weights : List ℕ pub priorWeights : "
         "List ℕ "
@@ -165,8 +191,11 @@ DEFINED = {
         "(lastYear f) (λ k. weight (ratioVariance f k)); priorMeans = tabFrom 0 (parts (lastYear f)) (priorMean f); | } "
         "| pub record Kept : Type 0 where pub figures : Figures pub observed : Observed "
         "| abbrev pub keptOf : Bytes → Kept | keptOf f = record { figures = figuresOf f; observed = observedOf f } "
-        "| abbrev pub inSession : Keeping Kept | inSession = record { keep = keptOf; figures = λ x. x .figures; priorMeans = λ x. x "
-        ".observed .priorMeans } |",
+        "| abbrev pub latestIn : ℕ → Observed → Latest | latestIn J o = record { logPaid = λ i. part (o .logarithms) (rowStart J "
+        "i + (J - i)); logIncurred = λ i. part (o .logarithms) (cells J + (rowStart J i + (J - i))); varianceΦ = λ m. getD (o "
+        ".variances) m 0; varianceΨ = λ n. getD (o .variances) (psiIndex J n) 0; | } | abbrev pub inSession : Keeping Kept | "
+        "inSession = record { keep = keptOf; figures = λ x. x .figures; priorMeans = λ x. x .observed .priorMeans; latest = λ x. "
+        "latestIn (x .figures .last) (x .observed); | } |",
     ),
     "definitions/JointTable": (
         "| abbrev 2^44-in-8 : Bytes | 2^44-in-8 = 0 ∷ 0 ∷ 16 ∷ 0 ∷ 0 ∷ 0 ∷ 0 ∷ 0 ∷ [] "
@@ -187,7 +216,19 @@ DEFINED = {
         "pub paid-last-above : fileCheck (amountsF 1-in-8 2^44-in-8 above-2^44-in-8 above-2^44-in-8 2^44-in-8) ≡ refuses 9 86 "
         "pub incurred-first-above : fileCheck (amountsF 1-in-8 2^44-in-8 1-in-8 above-2^44-in-8 0-in-8) ≡ refuses 9 94 "
         "pub incurred-last-above : fileCheck (amountsF 1-in-8 2^44-in-8 1-in-8 1-in-8 above-2^44-in-8) ≡ refuses 9 110 "
-        "pub amount-0 : fileCheck (amountsF 1-in-8 2^44-in-8 0-in-8 1-in-8 1-in-8) ≡ refuses 9 86 |",
+        "pub amount-0 : fileCheck (amountsF 1-in-8 2^44-in-8 0-in-8 1-in-8 1-in-8) ≡ refuses 9 86 pub F-ultimate",
+        "| abbrev ticks : ℤ → ℕ → ℕ → Ultimate | ticks floor remainder divisor = record { floor = floor; remainder = remainder; "
+        "divisor = divisor } | abbrev ultimateOfF : State Bytes → ℕ → Answer | ultimateOfF = ultimateCall figuresOf latestOf | "
+        "abbrev smallLatest : Latest | smallLatest = record { logPaid = part (pos 1000 ∷ pos 11 ∷ pos 17 ∷ []); logIncurred = "
+        "part (pos 2000 ∷ pos 13 ∷ pos 19 ∷ []); varianceΦ = λ m. getD (1 ∷ 2 ∷ 3 ∷ []) m 0; varianceΨ = λ n. getD (5 ∷ 7 ∷ []) n "
+        "0; | } | abbrev smallMean : List ℤ | smallMean = pos 100 ∷ pos 20 ∷ negsuc 29 ∷ pos 4 ∷ negsuc 49 ∷ [] |",
+        "pub F-ultimate : ultimateOfF (holds (fileF 1) (mean 0 0) 0) 1 ≡ ultimate-is (ticks (pos 11534336) 0 2147483648) pub "
+        "F-ultimate-half : ultimateOfF (holds (fileF 2) (mean 0 1) 0) 1 ≡ ultimate-is (ticks (pos 11534336) 1073741824 "
+        "2147483648) pub F-ultimate-closed : ultimateOfF empty 0 ≡ refused 21 0 pub F-ultimate-failing : ultimateOfF (holds "
+        "(fileF 1) (mean 2 0) 0) 0 ≡ refused 24 0 pub F-ultimate-year-0 : ultimateOfF (holds (fileF 1) (mean 0 0) 0) 0 ≡ refused "
+        "25 0 pub F-ultimate-year-2 : ultimateOfF (holds (fileF 1) (mean 0 0) 0) 2 ≡ refused 25 0 pub small-ultimate-1 : "
+        "ultimateOf 2 smallLatest 1 (part smallMean) ≡ ticks (negsuc 24) 6 10 pub small-ultimate-2 : ultimateOf 2 smallLatest 2 "
+        "(part smallMean) ≡ ticks (negsuc 2) 0 17 |",
         "| pub jointTable : JointTable | unfolding",
     ),
     "laws/Chains": (
@@ -216,11 +257,17 @@ DEFINED = {
         "| rounded-passes",
     ),
     "laws/MachineLaws": (
-        "| pub record Alike {X Y : Type 0} (K : Keeping X) (L : Keeping Y) (φ : X → Y) : Type 0 where pub keeps : (f : Bytes) → φ (K "
-        ".keep f) ≡ L .keep f pub figures : (x : X) → L .figures (φ x) ≡ K .figures x pub priorMeans : (x : X) → L .priorMeans (φ x) "
-        "≡ K .priorMeans x | module _ {X Y : Type 0} (K : Keeping X) (L : Keeping Y) (φ : X → Y) (h : Alike K L φ) where",
+        "| pub record Alike {X Y : Type 0} (K : Keeping X) (L : Keeping Y) (φ : X → Y) : Type 0 where pub keeps : (f : Bytes) → φ "
+        "(K .keep f) ≡ L .keep f pub figures : (x : X) → L .figures (φ x) ≡ K .figures x pub priorMeans : (x : X) → L .priorMeans "
+        "(φ x) ≡ K .priorMeans x pub latest : (x : X) → SameLatest (K .figures x .last) (L .latest (φ x)) (K .latest x) | module "
+        "_ {X Y : Type 0} (K : Keeping X) (L : Keeping Y) (φ : X → Y) (h : Alike K L φ) where",
         "pub outcomes-alike : (calls : List Call) (st : State X) → outcomes L (mapState φ st) calls ≡ map (mapOutcome φ) (outcomes K "
         "st calls) unfolding",
+    ),
+    "laws/Ultimates": (
+        "| pub record SameLatest (J : ℕ) (a b : Latest) : Type 0 where pub logPaid : (i : ℕ) → i ≤ J → a .logPaid i ≡ b .logPaid "
+        "i pub logIncurred : (i : ℕ) → i ≤ J → a .logIncurred i ≡ b .logIncurred i pub varianceΦ : (m : ℕ) → m ≤ J → a .varianceΦ "
+        "m ≡ b .varianceΦ m pub varianceΨ : (n : ℕ) → n < J → a .varianceΨ n ≡ b .varianceΨ n |",
     ),
     "observations/Arrays": (
         "| abbrev pub broughtWithin : ℕ → ℕ → ℕ → ℕ | broughtWithin lo hi v = max lo (min hi v) "
@@ -269,12 +316,38 @@ DEFINED = {
         "(p : Observations) : Type 0 where pub answer : ofOpen r ≡ opensTo (sessionState o s) file .answer pub state : sessionState "
         "p t ≡ opensTo (sessionState o s) file .state pub same : (number place : ℕ) → r ≡ Refused number place → (t ≡ s) × (p ≡ o) |",
     ),
+    "projecting/Projects": (
+        "| abbrev pub ofUltimate : Ultimate → D.Ultimate | ofUltimate r = record { floor = r .floor; remainder = r .remainder; "
+        "divisor = r .divisor } | abbrev pub ofProject : UltimateAnswer → Answer | ofProject (Central r) = M.ultimate-is "
+        "(ofUltimate r) | ofProject (Refused number place) = M.refused number place | abbrev pub latestWith : Observations → "
+        "Figures → Latest | latestWith o F = latestIn (F .last) (observedIn (F .last) o) | abbrev pub projectsTo : Observations → "
+        "State Figures → ℕ → Answer | projectsTo o = ultimateCall (λ F. F) (latestWith o) | pub record Projects (o : "
+        "Observations) (s : Held) (year : ℕ) (r : UltimateAnswer) : Type 0 where pub answer : ofProject r ≡ projectsTo o (stateOf "
+        "s) year pub exact : (F : Figures) (μ : List ℤ) (count : ℕ) → stateOf s ≡ holds F μ count → (u : Ultimate) → r ≡ Central "
+        "u → Divided (numerator (F .last) (latestWith o F) year (part μ)) (ofUltimate u) × (u .divisor ≡ bothVariances (F .last) "
+        "(latestWith o F) year) pub worth : (f : Bytes) (μ : List ℤ) (count : ℕ) → HoldsFile s f μ count → (u : Ultimate) → r ≡ "
+        "Central u → Guarantee (chainOf f) (closeness f) (part μ) | abbrev pub ProjectsLent : List ℤ → List ℕ → Held → ℕ → "
+        "UltimateAnswer → Type 0 | ProjectsLent ticks variances s year r = (weights : List ℕ) → Projects (observationsAt ticks "
+        "weights variances) s year r |",
+    ),
+    "telling/Told": (
+        "| abbrev pub ultimateTold : Answer → Projected | ultimateTold a = record { refusal = refusalTold a; floor = told a "
+        ".figure .floor; remainder = told a .figure .remainder; divisor = told a .figure .divisor; | } |",
+    ),
     "desk/Calls": (
         "| abbrev pub Numbered : Answer → Type 0 | Numbered a = (place : ℕ) → a ≢ refused 0 place "
         "| pub record Opens (s : Held) (o : Observations) (file : Bytes) (r : Refusal) (t : Held) (p : Observations) : Type 0 where "
         "pub told : r ≡ refusalTold (opensTo (sessionState o s) file .answer) pub numbered : Numbered (opensTo (sessionState o s) "
         "file .answer) pub state : sessionState p t ≡ opensTo (sessionState o s) file .state pub same : r .number ≢ 0 → (t ≡ s) × (p "
         "≡ o) |",
+        "| abbrev pub figureOf : Projected → Ultimate | figureOf r = record { floor = r .floor; remainder = r .remainder; divisor "
+        "= r .divisor } | pub record Projects (o : Observations) (s : Held) (year : ℕ) (r : Projected) : Type 0 where pub told : "
+        "r ≡ ultimateTold (projectsTo o (stateOf s) year) pub numbered : Numbered (projectsTo o (stateOf s) year) pub exact : (F "
+        ": Figures) (μ : List ℤ) (total : ℕ) → stateOf s ≡ holds F μ total → r .refusal .number ≡ 0 → Divided (numerator (F "
+        ".last) (latestWith o F) year (part μ)) (figureOf r) × (r .divisor ≡ bothVariances (F .last) (latestWith o F) year) pub "
+        "worth : (f : Bytes) (μ : List ℤ) (total : ℕ) → HoldsFile s f μ total → r .refusal .number ≡ 0 → Guarantee (chainOf f) "
+        "(closeness f) (part μ) | abbrev pub ProjectsLent : List ℤ → List ℕ → Held → ℕ → Projected → Type 0 | ProjectsLent ticks "
+        "variances s year r = (weights : List ℕ) → Projects (observationsAt ticks weights variances) s year r |",
     ),
     "desk/Sizes": (
         "| abbrev pub sizes : List ℕ | sizes = 3 ∷ parts yearLimit ∷ (parts yearLimit * parts yearLimit) ∷ parts yearLimit ∷ parts "

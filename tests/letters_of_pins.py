@@ -1,6 +1,7 @@
 """What pins say, to the letter, as `letters` has it: what is said of logarithms, of amounts, of files without a prior, of own weights and
-right-hand sides in document 01's words, of chains that no file gives, of number 16, of the numbers that there are and of a session as a
-whole, which no contract has. And of each file of pins, what its modules suppose, since one that supposes too much says nothing.
+right-hand sides in document 01's words, of chains that no file gives, of the central ultimate, of number 16, of the numbers that there
+are and of a session as a whole, which no contract has. And of each file of pins, what its modules suppose, since one that supposes too
+much says nothing.
 """
 
 SAID = {
@@ -30,9 +31,42 @@ SAID = {
     "laws/Pinned": (
         "| pub in-table : (X : Type 0) (K : Keeping X) (st : State X) (call : Call) (number place : ℕ) "
         "→ outcome K st call .answer ≡ refused number place "
-        "→ ((1 ≤ number) × (number ≤ 15)) ⊎ ((21 ≤ number) × (number ≤ 24)) | in-table",
+        "→ ((1 ≤ number) × (number ≤ 15)) ⊎ ((21 ≤ number) × (number ≤ 25)) | in-table",
         "| pub same-outcomes : (calls : List Call) (st : State Bytes) "
         "→ outcomes inSession (mapState keptOf st) calls ≡ map (mapOutcome keptOf) (outcomes theFile st calls) | same-outcomes",
+        "pub ultimates : (year : ℕ) → outcome K st (ultimate year) ≡ record { answer = ultimateCall (K .figures) (K .latest) st "
+        "year; state = st; buffer = [] } pub shows",
+    ),
+    "laws/PinnedUltimate": (
+        "| module _ (f : Bytes) (i : ℕ) (u : ℕ → ℤ) where abbrev J : ℕ J = lastYear f abbrev k : ℕ k = J - i abbrev pub N : ℕ N = "
+        "total i (λ m. varianceOf f (k + 1 + m)) abbrev pub M : ℕ M = total i (λ n. varianceOf f (J + 1 + (k + n))) abbrev pub "
+        "figure : ℤ figure = pos M *ℤ (pos (logarithm (paid f i k)) +ℤ sum i (λ m. u (k + 1 + m))) +ℤ pos N *ℤ (pos (logarithm "
+        "(incurred f i k)) +ℤ sum i (λ n. u (J + 1 + (k + n)))) module _ (taken : accepted f ≡ true) (from : 1 ≤ i) (to : i ≤ J) "
+        "where pub exact : let r : Ultimate = ultimateOf J (latestOf f) i u in (r .floor *ℤ pos (N + M) +ℤ pos (r .remainder) ≡ "
+        "figure) × (r .remainder < N + M) × (r .divisor ≡ N + M) unfolding",
+        "pub only : (floor : ℤ) (remainder : ℕ) → floor *ℤ pos (N + M) +ℤ pos remainder ≡ figure → remainder < N + M → let r : "
+        "Ultimate = ultimateOf J (latestOf f) i u in (floor ≡ r .floor) × (remainder ≡ r .remainder) unfolding",
+    ),
+    "projecting/Pinned": (
+        "pub ultimate-exact : (F : Figures) (μ : List ℤ) (count : ℕ) → stateOf s ≡ holds F μ count → (u .floor *ℤ pos (u "
+        ".divisor) +ℤ pos (u .remainder) ≡ numerator (F .last) (latestWith o F) year (part μ)) × (u .remainder < u .divisor) × (u "
+        ".divisor ≡ bothVariances (F .last) (latestWith o F) year) ultimate-exact",
+    ),
+    "desk/PinnedUltimate": (
+        "| abbrev refusedWith : ℕ → Projected | refusedWith number = record { refusal = record { number = number; place = 0 }; "
+        "floor = pos 0; remainder = 0; divisor = 0 } |",
+        "pub ultimate-closed : stateOf s ≡ empty → r ≡ refusedWith 21 unfolding",
+        "pub ultimate-failing : passes F (part μ) ≡ false → r ≡ refusedWith 24 unfolding",
+        "pub ultimate-year-0 : passes F (part μ) ≡ true → year ≡ 0 → r ≡ refusedWith 25 unfolding",
+        "pub ultimate-behind : passes F (part μ) ≡ true → F .last < year → r ≡ refusedWith 25 unfolding",
+        "pub ultimate-exact : r .refusal .number ≡ 0 → (r .floor *ℤ pos (r .divisor) +ℤ pos (r .remainder) ≡ numerator (F .last) "
+        "(latestWith o F) year (part μ)) × (r .remainder < r .divisor) × (r .divisor ≡ bothVariances (F .last) (latestWith o F) "
+        "year) ultimate-exact",
+        "pub ultimate-worth : (f : Bytes) (μ : List ℤ) (count : ℕ) → HoldsFile s f μ count → {e : ℕ} → closeness f ≡ e → r "
+        ".refusal .number ≡ 0 → Worth f e (part μ) ultimate-worth",
+        "pub ultimate-of-file : accepted f ≡ true → (r .refusal .number ≡ 0) × (r .floor *ℤ pos (N f year (part μ) + M f year "
+        "(part μ)) +ℤ pos (r .remainder) ≡ figure f year (part μ)) × (r .remainder < N f year (part μ) + M f year (part μ)) × (r "
+        ".divisor ≡ N f year (part μ) + M f year (part μ)) ultimate-of-file",
     ),
     "laws/PinnedChains": (
         "| abbrev pub byYear : ℕ → Chain | byYear J = record { last = J; p = λ i j. 3 * i + 7 * j; q = λ i j. 17 * i + 19 * j + 2; s "
@@ -139,6 +173,8 @@ SAID = {
         "reads-all",
         "pub pages-all : (lent after : Bytes) (r : Refusal) → Pages s lent r after → Written r after (outcome inSession st (page lent)) "
         "pages-all",
+        "pub projects-all : (year : ℕ) (r : Projected) → Projects o s year r → r ≡ ultimateTold (outcome inSession st (ultimate "
+        "year) .answer) projects-all",
         "pub closes-all : (held : List ℕ) → Closes held → (D : List ℕ) (A b μ : List ℤ) (p : Observations) → sessionState p (heldIn held "
         "D A b μ) ≡ outcome inSession st close .state unfolding",
     ),
@@ -146,6 +182,19 @@ SAID = {
 
 # By file of pins: the parameters of its modules, in their order.
 SUPPOSED = {
+    "laws/PinnedUltimate": (
+        "(f : Bytes) (i : ℕ) (u : ℕ → ℤ)",
+        "(taken : accepted f ≡ true) (from : 1 ≤ i) (to : i ≤ J)",
+    ),
+    "projecting/Pinned": (
+        "(o : Observations) (s : Held) (year : ℕ) (u : Ultimate) (call : Projects o s year (Central u))",
+    ),
+    "desk/PinnedUltimate": (
+        "(o : Observations) (s : Held) (year : ℕ) (r : Projected) (call : Projects o s year r)",
+        "(F : Figures) (μ : List ℤ) (count : ℕ) (some : stateOf s ≡ holds F μ count)",
+        "(f : Bytes) (μ : List ℤ) (count : ℕ) (kept : sessionState o s ≡ holds (keptOf f) μ count) (p : passes (figuresOf f) "
+        "(part μ) ≡ true) (from : 1 ≤ year) (to : year ≤ lastYear f)",
+    ),
     "laws/Pinned": (
         "(f : Bytes)",
         "(yes-file : accepted f ≡ true) (μ : Vector)",

@@ -39,6 +39,7 @@ WRITTEN = {
     12: (r"\(within (.+?) (.+?) n\)\) .* \(refused 12 0\)",),
     14: (r"unless \(leb channel (.+?)\) 14 ",),
     23: (r"\(leb (.+?) total\) .* \(refused 23 0\)",),
+    25: (r"\(within (.+?) \(figures x \.last\) year\)\) \(refused 25 0\)",),
 }
 
 

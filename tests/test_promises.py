@@ -19,6 +19,7 @@ BUFFER = "(now (buffer .entry)) r (now (buffer .exit))"
 EMPTY = "stateOf (heldBy r) ≡ State.empty"
 OBSERVED = "(observationsAt (now (ticks .entry)) (now (weights .entry)) (now (variances .entry)))"
 OPENS = f"Opens {OF_C} {OBSERVED} (now (file .entry)) r {OPENED} {OBSERVED.replace('.entry', '.exit')}"
+PROJECTS = "ProjectsLent (now (ticks .entry)) (now (variances .entry))"
 CONTRACTS = {
     "empty": (EMPTY, "holding/State session/Value definitions/Machine"),
     "open": (
@@ -29,6 +30,7 @@ CONTRACTS = {
     "sweep": ("Sweeps (heldBy s) n (r .answer) (heldBy (r .session))", "sweeping/Sweeps session/Value"),
     "read": (f"Reads (heldBy s) {BUFFER}", "writing/Writes session/Value"),
     "page": (f"Pages (heldBy s) {BUFFER}", "writing/Writes session/Value"),
+    "ultimate": ("Projects (s .observations) (heldBy s) year r", "projecting/Projects session/Value"),
     "figures": ("Shows (heldBy s) r", "showing/Shows session/Value"),
     "close": (EMPTY, "holding/State session/Value definitions/Machine"),
     "open_lent": (OPENS, "opening/Opens holding/State observations/Arrays"),
@@ -39,6 +41,7 @@ CONTRACTS = {
     ),
     "read_lent": (f"Reads {LENT} {BUFFER}", "writing/Writes holding/State"),
     "page_lent": (f"Pages {LENT} {BUFFER}", "writing/Writes holding/State"),
+    "ultimate_lent": (f"{PROJECTS} {LENT} year r", "projecting/Projects holding/State"),
     "figures_lent": (f"Shows {LENT} r", "showing/Shows holding/State"),
     "row": ("now r ≡ rowPart (now (s .entry)) channel year", "definitions/Machine"),
     "row_told": ("told r ≡ rowCheck (now (s .entry)) channel year", "definitions/Refusals layout/Checks"),
@@ -47,6 +50,7 @@ CONTRACTS = {
     "desk_sweep_lent": (f"Sweeps {OF_C} n r (heldIn (now (held .exit)) {SWEPT})", "desk/Calls holding/State"),
     "desk_read_lent": (f"Reads {OF_C} {BUFFER}", "desk/Calls holding/State"),
     "desk_page_lent": (f"Pages {OF_C} {BUFFER}", "desk/Calls holding/State"),
+    "desk_ultimate_lent": (f"{PROJECTS} {OF_C} year r", "desk/Calls holding/State"),
     "desk_figures_lent": (f"Shows {OF_C} r", "desk/Calls holding/State"),
     "desk_close_lent": ("Closes (now (held .exit))", "desk/Calls"),
     "desk_row": ("ShowsRow (now (file .entry)) channel year r", "desk/Calls"),
@@ -67,7 +71,7 @@ BESIDES = {"list": INSIDE, "board": INSIDE, "sweep": " ensures { λ r. ⌜ r .se
 PINNED = {
     "laws/Pinned":
         "( Each Worth nearly-least near strictly-least worth Near room limits m u some exact half rounded ( at-the-bound near-passes ) "
-        ") ( Machine opens judges judges-alone sweeps reads reads-alone pages pages-alone shows tells closes machine ) in-table "
+        ") ( Machine opens judges judges-alone sweeps reads reads-alone pages pages-alone ultimates shows tells closes machine ) in-table "
         "same-outcomes row-empty loss-around",
     "laws/PinnedChains":
         "byYear Figured own-weights entries right-hands loss-of-u loss-of-half-u figured ( by-year-bounded by-year-carried ( "
@@ -78,6 +82,7 @@ PINNED = {
         "residue-to divided-to ) )",
     "laws/PinnedLogarithms": "logarithm-bounded logarithm-nearest larger-logarithm one-tick-at-most largest-logarithm",
     "laws/PinnedPage": "( page-bytes ( name-on-page index-on-page ticks-on-page weight-on-page spaces-on-page ) ) never-shared",
+    "laws/PinnedUltimate": "( N M figure ( exact only ) )",
     "laws/PinnedPriors":
         "prior-variance-taken ( ( accepted-still opened-still row-still ) same-with-priors phi-alone psi-alone phi-owned psi-owned )",
     "laws/Number16":
@@ -91,20 +96,24 @@ PINNED = {
     "judging/Pinned": "( judge-worth judge-rounded )",
     "sweeping/Pinned": "( sweep-worth sweep-rounded ) sweep-refused",
     "writing/Pinned": "( write-worth )",
+    "projecting/Pinned": "( ultimate-exact ultimate-worth )",
     "showing/Pinned":
         "( none-shown ( shown-numbers shown-own shown-entry shown-right-hand ) ( numbers-of-file own-of-file entry-of-file "
         "right-hand-of-file ) )",
     "session/Pinned": "held-whole",
     "telling/Pinned":
         "Pinned opened-file refused-file written-mean passed-mean failing-mean refused-record settled-mean going-mean refused-sweeps "
-        "shown-row row-of-F refused-row shown-system refused-system pinned",
+        "central-ultimate refused-ultimate shown-row row-of-F refused-row shown-system refused-system pinned",
     "desk/Pinned":
         "( ( open-told open-state open-refused open-numbered ) ( sweep-told sweep-state sweep-refused sweep-numbered ) closed ) ( ( "
         "judge-told judge-numbered ) ( write-told write-buffer write-numbered ) page-closed ( read-record page-written page-short ) ) ( "
         "none-shown figures-numbered ( shown-numbers shown-own shown-entry shown-right-hand ) ( numbers-of-file own-of-file "
         "entry-of-file right-hand-of-file ) ) ( row-told row-shows row-inside row-empty row-numbered ) ( ( judge-worth judge-rounded ) "
         "( sweep-worth sweep-rounded ) write-worth )",
-    "desk/PinnedSession": "( opens-all judges-all sweeps-all reads-all pages-all closes-all )",
+    "desk/PinnedSession": "( opens-all judges-all sweeps-all reads-all pages-all projects-all closes-all )",
+    "desk/PinnedUltimate":
+        "( ultimate-told ultimate-numbered ultimate-closed ( ultimate-failing ultimate-year-0 ultimate-behind ultimate-exact ) "
+        "ultimate-worth ( ultimate-of-file ) )",
 }
 
 # The examples that document 01 marks with a star ("Figures to agree on").
@@ -124,6 +133,12 @@ WITHOUT_PRIORS = {
 OF_THE_AMOUNTS = {
     "log-of-2^44", "largest-accepted", "largest-right-hand", "beside-1-right-hand", "paid-first-above", "paid-last-above",
     "incurred-first-above", "incurred-last-above", "amount-0",
+}
+
+# F's central ultimate, the refusals of its call, and others with every number another.
+OF_ULTIMATES = {
+    "F-ultimate", "F-ultimate-half", "F-ultimate-closed", "F-ultimate-failing", "F-ultimate-year-0", "F-ultimate-year-2",
+    "small-ultimate-1", "small-ultimate-2",
 }
 
 # What a session keeps of F besides its figures.
@@ -184,7 +199,7 @@ class Promises(unittest.TestCase):
 
     def test_cases_of_the_joint_table(self) -> None:
         table = text_of("crates/definitions/specs/JointTable.antt").split("pub record JointTable")[1].split("pub jointTable")[0]
-        expected = STARRED | OF_A_SESSION | OF_THE_PAGE | WITHOUT_PRIORS | OF_THE_AMOUNTS
+        expected = STARRED | OF_A_SESSION | OF_THE_PAGE | WITHOUT_PRIORS | OF_THE_AMOUNTS | OF_ULTIMATES
         self.assertEqual(set(re.findall(r"^  pub (\S+) :", table, re.MULTILINE)), expected)
 
     def test_every_call_is_in_the_specification(self) -> None:

@@ -1,8 +1,8 @@
 """The reserves of the paper's Table 3, last column, from its Tables 2, 10 and 11: `python3 python/examples/table_3.py`.
 
 The desk settles the posterior mean, and gives each accident year's central ultimate by it, exact as a logarithm: `exp` of that is a
-median. Formula (3.7) of the paper gives the expected ultimate, in floats. Of both what is paid already goes off, and what is left is printed
-beside the paper's figure.
+median. Formula (3.7) of the paper gives the expected ultimate, in floats. Of both what is paid already goes off, and what is left is
+printed beside the paper's figure.
 """
 
 import sys

@@ -4,9 +4,9 @@ use mathlib.Core.Path.{_≡_, ap, ap₂, _∙_}
 use mathlib.Core.List.{[], _∷_}
 use native.Mathlib.Nat.{mul-comm, div-add-mod, mod-lt, div-lt-iff-lt-mul, lt-of-mul-lt-mul-right}
 use native.Mathlib.Omega.{arith}
-use lib.IntN.{ℤ, pos, natAbs, _+ℤ_, _-ℤ_, _*ℤ_}
+use lib.IntN.{ℤ, pos, natAbs, _+ℤ_, _*ℤ_}
 use Rattle.integers.specs.Floor.{floorDiv, floorRest, floor-rest-nonneg, floor-rest-<}
-use Rattle.integers.specs.Linear.{linear, zarith}
+use Rattle.integers.specs.Linear.{linear}
 use Rattle.integers.specs.Order.{nonneg-pos}
 use Rattle.integers.specs.Size.{natAbs-+, natAbs-*, natAbs-*-≤}
 use Rattle.integers.specs.Solver.{ring, _⊞_, _⊠_, num, _≐_}
@@ -135,7 +135,8 @@ module _ (n : Wide) {d : ℕ} {first : Quotient} {second third : Digit} (split :
       record {
         whole =
             ring ((first .floor) ∷ pos (second .digit) ∷ pos (third .digit) ∷ pos d ∷ pos (third .rest) ∷ [])
-            (λ f s t d r. (f ⊠ num 4294967296 ⊞ (s ⊠ num 65536 ⊞ t)) ⊠ d ⊞ r ≐ (f ⊠ d) ⊠ num 4294967296 ⊞ (s ⊠ d) ⊠ num 65536 ⊞ t ⊠ d ⊞ r) tt
+            (λ f s t d r. (f ⊠ num 4294967296 ⊞ (s ⊠ num 65536 ⊞ t)) ⊠ d ⊞ r
+            ≐ (f ⊠ d) ⊠ num 4294967296 ⊞ (s ⊠ d) ⊠ num 65536 ⊞ t ⊠ d ⊞ r) tt
             ∙ simp linear (omega (arith, digits, rest, simp linear at high));
         below = last .below;
       }

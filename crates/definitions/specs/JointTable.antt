@@ -123,8 +123,8 @@ abbrev smallLatest : Latest
 smallLatest = record {
   logPaid = part (pos 1000 ∷ pos 11 ∷ pos 17 ∷ []);
   logIncurred = part (pos 2000 ∷ pos 13 ∷ pos 19 ∷ []);
-  σ² = λ m. getD (1 ∷ 2 ∷ 3 ∷ []) m 0;
-  τ² = λ n. getD (5 ∷ 7 ∷ []) n 0;
+  varianceΦ = λ m. getD (1 ∷ 2 ∷ 3 ∷ []) m 0;
+  varianceΨ = λ n. getD (5 ∷ 7 ∷ []) n 0;
 }
 
 -- Φ_0, Φ_1, Φ_2, Ψ_0, Ψ_1

@@ -43,8 +43,8 @@ abbrev pub latestIn : ℕ → Observed → Latest
 latestIn J o = record {
   logPaid = λ i. part (o .logarithms) (rowStart J i + (J - i));
   logIncurred = λ i. part (o .logarithms) (cells J + (rowStart J i + (J - i)));
-  σ² = λ m. getD (o .variances) m 0;
-  τ² = λ n. getD (o .variances) (psiIndex J n) 0;
+  varianceΦ = λ m. getD (o .variances) m 0;
+  varianceΨ = λ n. getD (o .variances) (psiIndex J n) 0;
 }
 
 -- the session machine on what a session keeps

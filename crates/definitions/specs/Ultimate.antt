@@ -6,24 +6,23 @@ use lib.IntN.{ℤ, pos, natAbs, _+ℤ_, _-ℤ_, _*ℤ_}
 use lib.Signed.{shrZ}
 use Rattle.integers.specs.Summation.{sum, total}
 use Rattle.definitions.specs.Layout.{Bytes, lastYear, psiIndex, paid, incurred}
-use Rattle.definitions.specs.Observations as O
-use Rattle.definitions.specs.Observations.{logOf}
+use Rattle.definitions.specs.Observations.{logOf, σ², τ²}
 use Rattle.definitions.specs.Loss.{Vector}
 
--- What it is taken from besides a mean: the logarithms of each accident year's latest amounts, log P_(i,J−i) and log I_(i,J−i), and the
--- variances by development year.
+-- What it is taken from besides a mean: the logarithms of each accident year's latest amounts, log P_(i,J−i) and log I_(i,J−i), and by
+-- development year the variances σ² of Φ and τ² of Ψ.
 pub record Latest : Type 0 where
   pub logPaid : ℕ → ℤ
   pub logIncurred : ℕ → ℤ
-  pub σ² : ℕ → ℕ
-  pub τ² : ℕ → ℕ
+  pub varianceΦ : ℕ → ℕ
+  pub varianceΨ : ℕ → ℕ
 
 abbrev pub latestOf : Bytes → Latest
 latestOf f = record {
   logPaid = λ i. logOf (paid f i (lastYear f - i));
   logIncurred = λ i. logOf (incurred f i (lastYear f - i));
-  σ² = O.σ² f;
-  τ² = O.τ² f;
+  varianceΦ = σ² f;
+  varianceΨ = τ² f;
 }
 
 -- A figure in ticks, as a fraction: `floor` and `remainder` over `divisor`.
@@ -41,11 +40,11 @@ pub record Divided (numerator : ℤ) (r : Ultimate) : Type 0 where
 module _ (J : ℕ) (a : Latest) (i : ℕ) where
   -- N: σ²_m for m > k, i of them
   unfoldable pub paidVariance : ℕ
-  paidVariance = total i (λ m. a .σ² (J - i + 1 + m))
+  paidVariance = total i (λ m. a .varianceΦ (J - i + 1 + m))
 
   -- M: τ²_n for n ≥ k, i of them
   unfoldable pub incurredVariance : ℕ
-  incurredVariance = total i (λ n. a .τ² (J - i + n))
+  incurredVariance = total i (λ n. a .varianceΨ (J - i + n))
 
   -- log P_(i,k) + ΣΦ_m for m > k
   unfoldable pub paidUltimate : Vector → ℤ
@@ -58,11 +57,12 @@ module _ (J : ℕ) (a : Latest) (i : ℕ) where
   abbrev pub numerator : Vector → ℤ
   numerator u = pos incurredVariance *ℤ paidUltimate u +ℤ pos paidVariance *ℤ incurredUltimate u
 
-  abbrev pub divisor : ℕ
-  divisor = paidVariance + incurredVariance
+  -- N + M
+  abbrev pub bothVariances : ℕ
+  bothVariances = paidVariance + incurredVariance
 
   -- `shrZ` rounds down
   unfoldable pub ultimateOf : Vector → Ultimate
   ultimateOf u =
-      let floor = shrZ (numerator u) divisor in
-      record { floor = floor; remainder = natAbs (numerator u -ℤ floor *ℤ pos divisor); divisor = divisor }
+      let floor = shrZ (numerator u) bothVariances in
+      record { floor = floor; remainder = natAbs (numerator u -ℤ floor *ℤ pos bothVariances); divisor = bothVariances }

@@ -10,7 +10,7 @@ use Rattle.definitions.specs.Words.{part}
 use Rattle.definitions.specs.Layout.{Bytes, lastYear}
 use Rattle.definitions.specs.Refusals.{clear, refuses, rowCheck}
 use Rattle.definitions.specs.Matrix as D
-use Rattle.definitions.specs.Ultimate.{Divided, numerator, divisor}
+use Rattle.definitions.specs.Ultimate.{Divided, numerator, bothVariances}
 use Rattle.definitions.specs.Machine.{Answer, refused, State, empty, holds, rowPart}
 use Rattle.laws.specs.Numbers as N
 use Rattle.laws.specs.Rows.{row-inside, row-some, row-shown}
@@ -50,11 +50,11 @@ use Rattle.projecting.specs.declared.Ultimate.{Ultimate}
 use Rattle.projecting.specs.declared.UltimateAnswer.{UltimateAnswer}
 use Rattle.projecting.specs.declared.UltimateAnswer.the-variants as U
 use Rattle.projecting.specs.Projects as UltimateCall
-use Rattle.projecting.specs.Projects.{ofProject, latestOf, projectsTo}
+use Rattle.projecting.specs.Projects.{ofProject, latestWith, projectsTo}
 use Rattle.telling.specs.declared.System.{System}
 use Rattle.telling.specs.declared.Projected.{Projected}
 use Rattle.telling.specs.Told.{none, told, refusalTold, judgeTold, sweepTold, rowTold, figuresTold, systemTold, ultimateTold}
-use Rattle.desk.specs.Calls.{Numbered, Opens, Judges, Sweeps, Writes, Projects, Shows, Closes, ShowsRow}
+use Rattle.desk.specs.Calls.{Numbered, Opens, Judges, Sweeps, Writes, figureOf, Projects, Shows, Closes, ShowsRow}
 
 never-0 : {a : Answer} → N.NumberedAnswer a → Numbered a
 never-0 listed place e = subst N.NumberedAnswer e listed
@@ -161,15 +161,15 @@ projects-told o s year a h {r} e = record {
 }
   where
     numbered : Numbered (projectsTo o (stateOf s) year)
-    numbered = never-0 (N.ultimate-numbered itself (latestOf o) (stateOf s) year)
+    numbered = never-0 (N.ultimate-numbered itself (latestWith o) (stateOf s) year)
 
     number : refusalTold (ofProject a) .number ≡ r .refusal .number
     number = sym (ap (λ x. x .refusal .number) e)
 
     Exact : D.Figures → List ℤ → Projected → Type 0
     Exact F μ r =
-        Divided (numerator (F .last) (latestOf o F) year (part μ)) (record { floor = r .floor; remainder = r .remainder; divisor = r .divisor })
-        × (r .divisor ≡ divisor (F .last) (latestOf o F) year)
+        Divided (numerator (F .last) (latestWith o F) year (part μ)) (figureOf r)
+        × (r .divisor ≡ bothVariances (F .last) (latestWith o F) year)
 
     central : (a : UltimateAnswer) → ofProject a ≡ projectsTo o (stateOf s) year → refusalTold (ofProject a) .number ≡ 0
         → (u : Ultimate) × (a ≡ U.Central u)

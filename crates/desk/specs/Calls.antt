@@ -14,7 +14,7 @@ use Rattle.definitions.specs.Observations.{chainOf}
 use Rattle.definitions.specs.Sweep.{sweepLimit}
 use Rattle.definitions.specs.Page.{pageLength}
 use Rattle.definitions.specs.Matrix.{Figures}
-use Rattle.definitions.specs.Ultimate.{Divided, numerator, divisor}
+use Rattle.definitions.specs.Ultimate.{Ultimate, Divided, numerator, bothVariances}
 use Rattle.definitions.specs.Machine.{Answer, refused, empty, holds, rowPart, recordIn, pageIn}
 use Rattle.definitions.specs.Guarantee.{Guarantee, Rounded}
 use Rattle.chain.specs.Arrays.{figuresAt}
@@ -27,7 +27,7 @@ use Rattle.sweeping.specs.Sweeps.{sweepsTo}
 use Rattle.writing.specs.Writes.{Text, writesTo}
 use Rattle.showing.specs.declared.FiguresAnswer.the-variants.{Refused}
 use Rattle.showing.specs.Shows.{showsTo, FiguresOf}
-use Rattle.projecting.specs.Projects.{latestOf, projectsTo}
+use Rattle.projecting.specs.Projects.{latestWith, projectsTo}
 use Rattle.telling.specs.declared.Refusal.{Refusal}
 use Rattle.telling.specs.declared.Judged.{Judged}
 use Rattle.telling.specs.declared.Swept.{Swept}
@@ -77,12 +77,15 @@ Reads = Writes recordLength recordIn
 abbrev pub Pages : Held → Bytes → Refusal → Bytes → Type 0
 Pages = Writes pageLength pageIn
 
+abbrev pub figureOf : Projected → Ultimate
+figureOf r = record { floor = r .floor; remainder = r .remainder; divisor = r .divisor }
+
 pub record Projects (o : Observations) (s : Held) (year : ℕ) (r : Projected) : Type 0 where
   pub told : r ≡ ultimateTold (projectsTo o (stateOf s) year)
   pub numbered : Numbered (projectsTo o (stateOf s) year)
   pub exact : (F : Figures) (μ : List ℤ) (total : ℕ) → stateOf s ≡ holds F μ total → r .refusal .number ≡ 0
-      → Divided (numerator (F .last) (latestOf o F) year (part μ)) (record { floor = r .floor; remainder = r .remainder; divisor = r .divisor })
-      × (r .divisor ≡ divisor (F .last) (latestOf o F) year)
+      → Divided (numerator (F .last) (latestWith o F) year (part μ)) (figureOf r)
+      × (r .divisor ≡ bothVariances (F .last) (latestWith o F) year)
   pub worth : (f : Bytes) (μ : List ℤ) (total : ℕ) → HoldsFile s f μ total → r .refusal .number ≡ 0
       → Guarantee (chainOf f) (closeness f) (part μ)
 

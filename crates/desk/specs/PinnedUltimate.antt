@@ -13,7 +13,7 @@ use Rattle.definitions.specs.Layout.{Bytes, lastYear, closeness}
 use Rattle.definitions.specs.Refusals.{accepted}
 use Rattle.definitions.specs.Matrix.{Figures, figuresFrom, figuresOf, passes}
 use Rattle.definitions.specs.Ultimate as U
-use Rattle.definitions.specs.Ultimate.{numerator, divisor, ultimateOf}
+use Rattle.definitions.specs.Ultimate.{numerator, bothVariances, ultimateOf}
 use Rattle.definitions.specs.Machine.{refused, ultimate, empty, holds, theFile, ultimateCall, outcome}
 use Rattle.definitions.specs.Kept.{keptOf, inSession}
 use Rattle.laws.specs.MachineLaws.{outcome-alike, session-alike}
@@ -22,8 +22,7 @@ use Rattle.laws.specs.PinnedUltimate.{N, M, figure, exact}
 use Rattle.observations.specs.declared.Observations.{Observations}
 use Rattle.holding.specs.State.{Held, stateOf, sessionState, HoldsFile}
 use Rattle.holding.specs.SessionLaws.{ultimate-session}
-use Rattle.projecting.specs.Projects.{latestOf, projectsTo}
-use Rattle.telling.specs.declared.Refusal.{Refusal}
+use Rattle.projecting.specs.Projects.{latestWith, projectsTo}
 use Rattle.telling.specs.declared.Projected.{Projected}
 use Rattle.telling.specs.Told.{none, ultimateTold}
 use Rattle.desk.specs.Calls.{Projects}
@@ -58,33 +57,33 @@ module _ (o : Observations) (s : Held) (year : ℕ) (r : Projected) (call : Proj
 
     -- of every session, whatever stands in it
     pub ultimate-exact : r .refusal .number ≡ 0
-        → (r .floor *ℤ pos (r .divisor) +ℤ pos (r .remainder) ≡ numerator (F .last) (latestOf o F) year (part μ))
+        → (r .floor *ℤ pos (r .divisor) +ℤ pos (r .remainder) ≡ numerator (F .last) (latestWith o F) year (part μ))
         × (r .remainder < r .divisor)
-        × (r .divisor ≡ divisor (F .last) (latestOf o F) year)
+        × (r .divisor ≡ bothVariances (F .last) (latestWith o F) year)
     ultimate-exact done = let h = call .exact F μ count some done in (h .0 .whole, h .0 .below, h .1)
 
-  module _ (f : Bytes) (μ : List ℤ) (count : ℕ) where
-    pub ultimate-worth : HoldsFile s f μ count → {e : ℕ} → closeness f ≡ e → r .refusal .number ≡ 0 → Worth f e (part μ)
-    ultimate-worth open-file close done = worth f close (call .worth f μ count open-file done)
+  pub ultimate-worth : (f : Bytes) (μ : List ℤ) (count : ℕ) → HoldsFile s f μ count → {e : ℕ} → closeness f ≡ e
+      → r .refusal .number ≡ 0 → Worth f e (part μ)
+  ultimate-worth f μ count open-file close done = worth f close (call .worth f μ count open-file done)
 
-    -- of a session that keeps the file
-    module _ (kept : sessionState o s ≡ holds (keptOf f) μ count) (p : passes (figuresOf f) (part μ) ≡ true) (from : 1 ≤ year)
-        (to : year ≤ lastYear f) where
-      abbrev found : U.Ultimate
-      found = ultimateOf (lastYear f) (U.latestOf f) year (part μ)
+  -- of a session that keeps a file whose mean passes
+  module _ (f : Bytes) (μ : List ℤ) (count : ℕ) (kept : sessionState o s ≡ holds (keptOf f) μ count)
+      (p : passes (figuresOf f) (part μ) ≡ true) (from : 1 ≤ year) (to : year ≤ lastYear f) where
+    abbrev found : U.Ultimate
+    found = ultimateOf (lastYear f) (U.latestOf f) year (part μ)
 
-      answer : r ≡ record { refusal = none; floor = found .floor; remainder = found .remainder; divisor = found .divisor }
-      unfolding outcome ultimateCall figuresFrom
-      answer =
-          call .told
-          ∙ ap (λ x. ultimateTold (x .answer)) (sym (ultimate-session o s year))
-          ∙ ap (λ st. ultimateTold (outcome inSession st (ultimate year) .answer)) kept
-          ∙ ap (λ x. ultimateTold (x .answer)) (outcome-alike theFile inSession keptOf session-alike (holds f μ count) (ultimate year))
-          ∙ rw (p, le-leb 1 year from, le-leb year (lastYear f) to) refl
+    answer : r ≡ record { refusal = none; floor = found .floor; remainder = found .remainder; divisor = found .divisor }
+    unfolding outcome ultimateCall figuresFrom
+    answer =
+        call .told
+        ∙ ap (λ x. ultimateTold (x .answer)) (sym (ultimate-session o s year))
+        ∙ ap (λ st. ultimateTold (outcome inSession st (ultimate year) .answer)) kept
+        ∙ ap (λ x. ultimateTold (x .answer)) (outcome-alike theFile inSession keptOf session-alike (holds f μ count) (ultimate year))
+        ∙ rw (p, le-leb 1 year from, le-leb year (lastYear f) to) refl
 
-      pub ultimate-of-file : accepted f ≡ true
-          → (r .refusal .number ≡ 0)
-          × (r .floor *ℤ pos (N f year (part μ) + M f year (part μ)) +ℤ pos (r .remainder) ≡ figure f year (part μ))
-          × (r .remainder < N f year (part μ) + M f year (part μ))
-          × (r .divisor ≡ N f year (part μ) + M f year (part μ))
-      ultimate-of-file taken = let h = exact f year (part μ) taken from to in rw answer (refl, h .0, h .1, h .2)
+    pub ultimate-of-file : accepted f ≡ true
+        → (r .refusal .number ≡ 0)
+        × (r .floor *ℤ pos (N f year (part μ) + M f year (part μ)) +ℤ pos (r .remainder) ≡ figure f year (part μ))
+        × (r .remainder < N f year (part μ) + M f year (part μ))
+        × (r .divisor ≡ N f year (part μ) + M f year (part μ))
+    ultimate-of-file taken = let h = exact f year (part μ) taken from to in rw answer (refl, h .0, h .1, h .2)

@@ -19,7 +19,8 @@
 --                          natAbs-neg, natAbs-+, natAbs--, natAbs-*, natAbs-*-≤, natAbs-square                         Size
 --   signed bits            fits, kept                                                                                  Size
 --   read back, by its sign stored, read, same; negative, nonnegative, complement-negative, complement-nonnegative      Bits
---   rounded down           floorDiv, floor-≤, floor-<, floor-rest-nonneg, floor-rest-<, floor-unique                                            Floor
+--   rounded down           floorDiv, floor-≤, floor-<, floor-unique, floor-half                                        Floor
+--                          floorRest, floor-rest-nonneg, floor-rest-<                                                  Floor
 --   what is summed         sum, and total over ℕ; `Sum` passes both on                                                 Summation
 --   sum, by one term       sum-zero, sum-suc, sum-next                                                                 Sum
 --   sum, term by term      sum-cong, sum-+, sum--, sum-neg, sum-scale, sum-scale-right, sum-const, sum-zeros           Sum

@@ -135,8 +135,8 @@ latest-kept : (f : Bytes) → SameLatest (lastYear f) (latestIn (lastYear f) (ob
 latest-kept f = record {
   logPaid = λ i there. logarithm-at (rowStart J i + (J - i)) (omega (arith, cell-below J i (J - i) (omega arith)));
   logIncurred = λ i there. logarithm-at (cells J + (rowStart J i + (J - i))) (omega (arith, cell-below J i (J - i) (omega arith)));
-  σ² = λ m there. tab-at (parts J) (varianceOf f) m 0 (omega arith);
-  τ² = λ n there. tab-at (parts J) (varianceOf f) (psiIndex J n) 0 (omega arith);
+  varianceΦ = λ m there. tab-at (parts J) (varianceOf f) m 0 (omega arith);
+  varianceΨ = λ n there. tab-at (parts J) (varianceOf f) (psiIndex J n) 0 (omega arith);
 }
   where
     J : ℕ

@@ -1,11 +1,11 @@
--- The central ultimate once more, in document 02's letters and with nothing named: of every accepted file, every accident year i of 1..J and
--- every mean, floor·(N + M) + remainder is M times (log P_(i,k) + ΣΦ_m for m > k) plus N times (log I_(i,k) + ΣΨ_n for n ≥ k), and the
--- remainder is from 0 to N + M − 1; and no other floor and remainder are so.
+-- The central ultimate once more, in document 02's letters and with nothing named: of every accepted file, every accident year i of 1..J
+-- and every mean, floor·(N + M) + remainder is M times (log P_(i,k) + ΣΦ_m for m > k) plus N times (log I_(i,k) + ΣΨ_n for n ≥ k), and
+-- the remainder is from 0 to N + M − 1; and no other floor and remainder are so.
 use Prim.Native.Nat.{ℕ, _+_, _-_, _≤_, _<_}
 use mathlib.Core.Path.{_≡_, refl, ap}
 use mathlib.Core.Bool.{true}
 use lib.IntN.{ℤ, pos, _+ℤ_, _*ℤ_}
-use Rattle.integers.specs.Sum.{sum, total}
+use Rattle.integers.specs.Summation.{sum, total}
 use Rattle.definitions.specs.Layout.{Bytes, lastYear, paid, incurred, varianceOf}
 use Rattle.definitions.specs.Logarithm.{logarithm}
 use Rattle.definitions.specs.Refusals.{accepted}

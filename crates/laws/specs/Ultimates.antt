@@ -1,11 +1,11 @@
 -- The central ultimate: the three numbers that answer it are those of its numerator and no others, for every accepted file; its divisor is
 -- the variance that the weight g of the year's ratio is made of; and only latest amounts, variances and parts that exist count.
-use Prim.Native.Nat.{ℕ, _+_, _-_, _^_, _≤_, _<_}
+use Prim.Native.Nat.{ℕ, _+_, _-_, _≤_, _<_}
 use mathlib.Core.Path.{_≡_, refl, sym, ap, ap₂, _∙_}
 use native.Mathlib.Omega.{arith}
 use lib.IntN.{ℤ, pos, natAbs, _+ℤ_, _-ℤ_, _*ℤ_, *ℤ-comm}
 use Rattle.integers.specs.Floor.{floorDiv, floorRest, floor-rest-nonneg, floor-rest-<, floor-unique}
-use Rattle.integers.specs.Linear.{linear, zarith}
+use Rattle.integers.specs.Linear.{linear}
 use Rattle.integers.specs.Order.{nonneg-pos}
 use Rattle.integers.specs.Sum.{total, sum-cong}
 use Rattle.integers.specs.Total.{total-cong}
@@ -13,7 +13,7 @@ use Rattle.definitions.specs.Layout.{Bytes, lastYear, parts, psiIndex}
 use Rattle.definitions.specs.Loss.{Vector}
 use Rattle.definitions.specs.Observations.{σ², τ², ratioVariance}
 use Rattle.definitions.specs.Ultimate.{Latest, latestOf, Ultimate, Divided, paidVariance, incurredVariance, paidUltimate, incurredUltimate}
-use Rattle.definitions.specs.Ultimate.{numerator, divisor, ultimateOf}
+use Rattle.definitions.specs.Ultimate.{numerator, bothVariances, ultimateOf}
 use Rattle.laws.specs.Accepted.{AcceptedFile}
 use Rattle.laws.specs.FileWeights.{ratioVariance-least}
 
@@ -47,15 +47,16 @@ divided-unique {n} {q} {r} {d} h =
 
 module _ (J : ℕ) (a : Latest) (i : ℕ) (u : Vector) where
   -- where some variance is to come
-  pub ultimate-divided : 0 < divisor J a i → Divided (numerator J a i u) (ultimateOf J a i u)
+  pub ultimate-divided : 0 < bothVariances J a i → Divided (numerator J a i u) (ultimateOf J a i u)
   unfolding ultimateOf
   ultimate-divided some = floor-divided (numerator J a i u) some
 
-  pub ultimate-divisor : ultimateOf J a i u .divisor ≡ divisor J a i
+  pub ultimate-divisor : ultimateOf J a i u .divisor ≡ bothVariances J a i
   unfolding ultimateOf
   ultimate-divisor = refl
 
-  pub ultimate-unique : {q : ℤ} {r : ℕ} → Divided (numerator J a i u) (of q r (divisor J a i)) → of q r (divisor J a i) ≡ ultimateOf J a i u
+  pub ultimate-unique : {q : ℤ} {r : ℕ} → Divided (numerator J a i u) (of q r (bothVariances J a i))
+      → of q r (bothVariances J a i) ≡ ultimateOf J a i u
   unfolding ultimateOf
   ultimate-unique h = divided-unique h
 
@@ -63,21 +64,21 @@ module _ (J : ℕ) (a : Latest) (i : ℕ) (u : Vector) where
 pub record SameLatest (J : ℕ) (a b : Latest) : Type 0 where
   pub logPaid : (i : ℕ) → i ≤ J → a .logPaid i ≡ b .logPaid i
   pub logIncurred : (i : ℕ) → i ≤ J → a .logIncurred i ≡ b .logIncurred i
-  pub σ² : (m : ℕ) → m ≤ J → a .σ² m ≡ b .σ² m
-  pub τ² : (n : ℕ) → n < J → a .τ² n ≡ b .τ² n
+  pub varianceΦ : (m : ℕ) → m ≤ J → a .varianceΦ m ≡ b .varianceΦ m
+  pub varianceΨ : (n : ℕ) → n < J → a .varianceΨ n ≡ b .varianceΨ n
 
 pub same-latest : {J : ℕ} {a : Latest} → SameLatest J a a
-same-latest = record { logPaid = λ i _. refl; logIncurred = λ i _. refl; σ² = λ m _. refl; τ² = λ n _. refl }
+same-latest = record { logPaid = λ i _. refl; logIncurred = λ i _. refl; varianceΦ = λ m _. refl; varianceΨ = λ n _. refl }
 
 module _ {J : ℕ} {a b : Latest} (same : SameLatest J a b) {i : ℕ} (there : i ≤ J) {u v : Vector}
     (parts-same : (k : ℕ) → k < parts J → u k ≡ v k) where
   same-paid : paidVariance J a i ≡ paidVariance J b i
   unfolding paidVariance
-  same-paid = total-cong i (λ m below. same .σ² (J - i + 1 + m) (omega arith))
+  same-paid = total-cong i (λ m below. same .varianceΦ (J - i + 1 + m) (omega arith))
 
   same-incurred : incurredVariance J a i ≡ incurredVariance J b i
   unfolding incurredVariance
-  same-incurred = total-cong i (λ n below. same .τ² (J - i + n) (omega arith))
+  same-incurred = total-cong i (λ n below. same .varianceΨ (J - i + n) (omega arith))
 
   same-paid-side : paidUltimate J a i u ≡ paidUltimate J b i v
   unfolding paidUltimate
@@ -95,7 +96,7 @@ module _ {J : ℕ} {a b : Latest} (same : SameLatest J a b) {i : ℕ} (there : i
 
 module _ (f : Bytes) (h : AcceptedFile f) {i : ℕ} (from : 1 ≤ i) (to : i ≤ lastYear f) where
   -- the variance whose weight is g of the year's last development year
-  pub divisor-is : divisor (lastYear f) (latestOf f) i ≡ ratioVariance f (lastYear f - i)
+  pub divisor-is : bothVariances (lastYear f) (latestOf f) i ≡ ratioVariance f (lastYear f - i)
   unfolding paidVariance incurredVariance ratioVariance
   divisor-is =
       ap (λ n. total n (λ m. σ² f (lastYear f - i + 1 + m)) + total n (λ m. τ² f (lastYear f - i + m))) (omega arith)

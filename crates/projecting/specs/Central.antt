@@ -8,7 +8,6 @@ use Rattle.definitions.specs.Words.{part}
 use Rattle.definitions.specs.Layout.{parts}
 use Rattle.definitions.specs.Refusals.{yearLimit, partLimit}
 use Rattle.definitions.specs.Sweep.{bringBack}
-use Rattle.definitions.specs.Ultimate as D
 use Rattle.definitions.specs.Ultimate.{Divided, ultimateOf}
 use Rattle.definitions.specs.Kept.{latestIn}
 use Rattle.scales.specs.declared.Ticks.{Ticks}
@@ -16,6 +15,7 @@ use Rattle.scales.specs.declared.Variance.{Variance}
 use Rattle.observations.specs.Arrays.{at, broughtWithin, observationsAt, observedIn}
 use Rattle.projecting.specs.declared.Ultimate.{Ultimate}
 use Rattle.projecting.specs.declared.central.Side.{Side}
+use Rattle.projecting.specs.Projects.{ofUltimate}
 
 -- ---- sums of parts and of variances, `count` of them from `first` on
 
@@ -54,10 +54,6 @@ pub record OfSides (paid incurred : Side) : Type 0 where
   pub some : 1 ≤ paid .variance .0
   pub paid-variance : paid .variance .0 ≤ 2 ^ 44
   pub incurred-variance : incurred .variance .0 ≤ 2 ^ 44
-
--- the figure as the definitions have it
-abbrev pub ofUltimate : Ultimate → D.Ultimate
-ofUltimate r = record { floor = r .floor; remainder = r .remainder; divisor = r .divisor }
 
 pub record Weighted (paid incurred : Side) (r : Ultimate) : Type 0 where
   pub divided : Divided

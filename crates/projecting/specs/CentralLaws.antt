@@ -5,13 +5,13 @@ use mathlib.Core.List.{List}
 use native.Mathlib.Omega.{arith}
 use lib.IntN.{ℤ, pos, natAbs, _+ℤ_, _*ℤ_}
 use Rattle.integers.specs.Size.{natAbs-+, natAbs-*-≤}
-use Rattle.integers.specs.Sum.{sum, total, sum-cong}
+use Rattle.integers.specs.Sum.{sum-cong}
 use Rattle.integers.specs.Total.{total-cong, total-bound, total-term, sum-size}
 use Rattle.definitions.specs.Words.{part}
 use Rattle.definitions.specs.Layout.{parts, psiIndex, cells, rowStart}
 use Rattle.definitions.specs.Refusals.{partLimit}
 use Rattle.definitions.specs.Sweep.{bringBack}
-use Rattle.definitions.specs.Ultimate.{Latest, Divided, paidVariance, incurredVariance, paidUltimate, incurredUltimate, numerator, divisor, ultimateOf}
+use Rattle.definitions.specs.Ultimate.{Latest, paidVariance, incurredVariance, paidUltimate, incurredUltimate, bothVariances, ultimateOf}
 use Rattle.definitions.specs.Kept.{latestIn}
 use Rattle.laws.specs.Cells.{cell-below, cells-few}
 use Rattle.laws.specs.StepLaws.{bringBack-inside}
@@ -24,7 +24,8 @@ use Rattle.observations.specs.declared.Observations.{Observations}
 use Rattle.observations.specs.Arrays.{at, broughtWithin, observationsAt, observedIn}
 use Rattle.projecting.specs.declared.Ultimate.{Ultimate}
 use Rattle.projecting.specs.declared.central.Side.{Side}
-use Rattle.projecting.specs.Central.{OfRun, partsFrom, variancesFrom, OfSide, SideOf, OfSides, ofUltimate, Weighted, OfYear, CentralOf}
+use Rattle.projecting.specs.Central.{OfRun, partsFrom, variancesFrom, OfSide, SideOf, OfSides, Weighted, OfYear, CentralOf}
+use Rattle.projecting.specs.Projects.{ofUltimate}
 
 -- ---- sums
 
@@ -45,7 +46,13 @@ variances-some variances first n some =
 pub side-small : (z : ℤ) {mean : List ℤ} {cell first count : ℕ} → OfSide mean cell first count
     → natAbs (bringBack z +ℤ partsFrom mean first count) ≤ 2 ^ 30
 side-small z {mean} {cell} {first} {count} h =
-    omega (arith, natAbs-+ (bringBack z) (partsFrom mean first count), bringBack-inside z, parts-small (h .run) count (omega arith), h .run .few)
+    omega (
+      arith,
+      natAbs-+ (bringBack z) (partsFrom mean first count),
+      bringBack-inside z,
+      parts-small (h .run) count (omega arith),
+      h .run .few,
+    )
 
 pub side-at : {mean ticks : List ℤ} {variances : List ℕ} {cell other first count : ℕ} {r : Side} → cell ≡ other
     → SideOf mean ticks variances cell first count r → SideOf mean ticks variances other first count r
@@ -114,7 +121,7 @@ module _ (J : ℕ) (o : Observations) where
   logarithm-at c below = tab-at (2 * cells J) (λ c. bringBack (part (o .ticks) c)) c (pos 0) below
 
   -- whatever its arrays hold, some variance is to come
-  pub divisor-some : (year : ℕ) → 1 ≤ year → year ≤ J → 0 < divisor J (latestIn J (observedIn J o)) year
+  pub divisor-some : (year : ℕ) → 1 ≤ year → year ≤ J → 0 < bothVariances J (latestIn J (observedIn J o)) year
   unfolding paidVariance
   divisor-some year from to =
       omega (
@@ -198,7 +205,7 @@ module _ {J : ℕ} {mean : List ℤ} {year : ℕ} (h : OfYear J mean year) where
 
       pub central-is : {r : Ultimate} → Weighted paid incurred r → ofUltimate r ≡ ultimateOf J a year (part mean)
       central-is {r} w =
-          let d-is : r .divisor ≡ divisor J a year = w .divisor ∙ ap₂ _+_ paid-variance-is incurred-variance-is in
+          let d-is : r .divisor ≡ bothVariances J a year = w .divisor ∙ ap₂ _+_ paid-variance-is incurred-variance-is in
           ap (λ d. record { floor = r .floor; remainder = r .remainder; divisor = d }) d-is
           ∙ ultimate-unique J a year (part mean) (record {
             whole =

@@ -1,4 +1,5 @@
+pub mod Projects
 pub mod Central
 pub mod CentralLaws
-pub mod Projects
 pub mod ProjectLaws
+pub mod Pinned

@@ -12,8 +12,8 @@ use Rattle.definitions.specs.Layout.{parts}
 use Rattle.definitions.specs.Matrix as D
 use Rattle.definitions.specs.Matrix.{passes}
 use Rattle.definitions.specs.Ultimate as U
-use Rattle.definitions.specs.Ultimate.{Divided, numerator, divisor, ultimateOf}
-use Rattle.definitions.specs.Machine.{Answer, refused, ultimate-is, State, empty, holds, ultimateCall}
+use Rattle.definitions.specs.Ultimate.{ultimateOf}
+use Rattle.definitions.specs.Machine.{refused, ultimate-is, holds, ultimateCall}
 use Rattle.laws.specs.Accepted.{Within, within-yes}
 use Rattle.laws.specs.Tables.{tab-at}
 use Rattle.laws.specs.Ultimates.{same-latest, ultimate-divided, ultimate-divisor, ultimate-cong}
@@ -21,22 +21,21 @@ use Rattle.layout.specs.declared.checks.Check.{Check}
 use Rattle.layout.specs.declared.checks.Check.the-variants.{Refuses}
 use Rattle.observations.specs.declared.Observations.{Observations}
 use Rattle.chain.specs.Arrays.{figuresOf, meanOf}
-use Rattle.holding.specs.State.{Held, Fits, stateHeld, stateOf, HoldsFile}
+use Rattle.holding.specs.State.{Held, Fits, stateHeld, stateOf}
 use Rattle.holding.specs.StateLaws.{stateOf-held, stateOf-empty}
 use Rattle.holding.specs.Worth.{worth}
 use Rattle.holding.specs.Passing.{Passing, heldPasses}
 use Rattle.projecting.specs.declared.Ultimate.{Ultimate}
 use Rattle.projecting.specs.declared.UltimateAnswer.{UltimateAnswer}
 use Rattle.projecting.specs.declared.UltimateAnswer.the-variants.{Central, Refused}
-use Rattle.projecting.specs.Central.{ofUltimate}
 use Rattle.projecting.specs.CentralLaws.{divisor-some}
-use Rattle.projecting.specs.Projects.{ofProject, latestOf, projectsTo, Projects}
+use Rattle.projecting.specs.Projects.{ofUltimate, ofProject, latestWith, projectsTo, Projects}
 
 -- a figure is answered only for a year of 1..J, where the mean that is held passes, and it is the definitions'
 pub record Answered (o : Observations) (F : D.Figures) (μ : List ℤ) (year : ℕ) (u : U.Ultimate) : Type 0 where
   pub passing : passes F (part μ) ≡ true
   pub year-there : Within 1 (F .last) year
-  pub is : u ≡ ultimateOf (F .last) (latestOf o F) year (part μ)
+  pub is : u ≡ ultimateOf (F .last) (latestWith o F) year (part μ)
 
 refused-answered : {number place : ℕ} {u : U.Ultimate} → refused number place ≡ ultimate-is u → ⊥
 refused-answered e = let z : _≡_ {A = ℕ} 0 1 = cc in omega arith
@@ -46,7 +45,7 @@ figure-same e = cc
 
 module _ (o : Observations) (F : D.Figures) (μ : List ℤ) (total year : ℕ) (u : U.Ultimate) where
   abbrev figure : U.Ultimate
-  figure = ultimateOf (F .last) (latestOf o F) year (part μ)
+  figure = ultimateOf (F .last) (latestWith o F) year (part μ)
 
   answered : projectsTo o (holds F μ total) year ≡ ultimate-is u → Answered o F μ year u
   unfolding ultimateCall
@@ -64,9 +63,9 @@ module _ (o : Observations) (s : Held) (year : ℕ) where
     answer = a;
     exact = λ F μ total state u told.
         let found = answered o F μ total year (ofUltimate u) (told-by state told) in
-        let divided = ultimate-divided (F .last) (latestOf o F) year (part μ)
+        let divided = ultimate-divided (F .last) (latestWith o F) year (part μ)
         (divisor-some (F .last) o year (found .year-there .from) (found .year-there .to)) in
-        (rw (found .is) divided, ap (λ v. v .divisor) (found .is) ∙ ultimate-divisor (F .last) (latestOf o F) year (part μ));
+        (rw (found .is) divided, ap (λ v. v .divisor) (found .is) ∙ ultimate-divisor (F .last) (latestWith o F) year (part μ));
     worth = λ f μ total open-file u told.
         worth open-file μ (answered o (D.figuresOf f) μ total year (ofUltimate u) (told-by (open-file .state) told) .passing);
   }
@@ -100,13 +99,13 @@ module _ (o : Observations) (s : Held) (year : ℕ) where
       projects-behind behind = projects-as _ (rw (is-open, p, le-leb 1 year (omega arith), lt-leb year (s .figures .last) behind) refl)
 
       pub projects-central : {r : Ultimate} → 1 ≤ year → year ≤ s .figures .last
-          → ofUltimate r ≡ ultimateOf (s .figures .last) (latestOf o F) year (part (s .mean)) → Projects o s year (Central r)
+          → ofUltimate r ≡ ultimateOf (s .figures .last) (latestWith o F) year (part (s .mean)) → Projects o s year (Central r)
       unfolding ultimateCall figuresOf
       projects-central from to e =
           projects-as _ (rw (is-open, p, le-leb 1 year from, le-leb year (s .figures .last) to) (ap ultimate-is (e ∙ same-mean)))
         where
-          same-mean : ultimateOf (s .figures .last) (latestOf o F) year (part (s .mean))
-              ≡ ultimateOf (s .figures .last) (latestOf o F) year (part (meanOf (s .figures .last) (s .mean)))
+          same-mean : ultimateOf (s .figures .last) (latestWith o F) year (part (s .mean))
+              ≡ ultimateOf (s .figures .last) (latestWith o F) year (part (meanOf (s .figures .last) (s .mean)))
           same-mean = ultimate-cong same-latest to (λ k below. sym (tab-at (parts (s .figures .last)) (part (s .mean)) k (pos 0) below))
 
   -- what 21 and 24 refuse

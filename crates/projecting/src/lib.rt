@@ -5,7 +5,7 @@ use crate::central::central_ultimate;
 use holding::passing::check_passing;
 use layout::checks::Check;
 
-pub mod central;
+mod central;
 
 // A figure in ticks: floor and remainder over the divisor.
 pub struct Ultimate {

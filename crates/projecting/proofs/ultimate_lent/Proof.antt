@@ -1,5 +1,5 @@
 -- `ultimate_lent` meets its contract: after 21, 24 and 25 the figure of the year is answered.
-use Prim.Native.Nat.{ℕ, _≤_}
+use Prim.Native.Nat.{ℕ}
 use mathlib.Core.Path.{_≡_}
 use mathlib.Core.Bool.{true}
 use mathlib.Core.List.{List}

@@ -3,7 +3,6 @@ use mathlib.Core.Path.{sym, ap, _∙_}
 use borrow.Author.Needs.{needs}
 use Rattle.integers.specs.Bits.{same}
 use Rattle.projecting.specs.Projects.{ofProject}
-use Rattle.telling.specs.declared.Projected.{Projected}
 use Rattle.telling.specs.Told.{none, ultimateTold}
 use Rattle.telling.proofs.ultimate_told.Statement.{statement}
 use Rattle.telling.proofs.ultimate_told.Tie as tie

@@ -1,14 +1,14 @@
 -- `divided` meets its contract: three digits, the first of them signed, with the rest.
-use Prim.Native.Nat.{ℕ, _+_, _*_, _^_, _≤_, _<_}
-use mathlib.Core.Path.{_≡_, sym, ap, ap₂, subst, _∙_}
+use Prim.Native.Nat.{_+_, _*_, _^_, _≤_, _<_}
+use mathlib.Core.Path.{_≡_, sym, ap, ap₂, subst}
 use native.Mathlib.Omega.{arith}
 use borrow.Author.Needs.{needs}
-use lib.IntN.{ℤ, pos, natAbs, _+ℤ_, _*ℤ_}
+use lib.IntN.{pos, natAbs, _+ℤ_, _*ℤ_}
 use mir.Syntax.{w64}
 use mir.Val.{toZ}
 use mir.Facts.{toZ-pos}
 use Rattle.integers.specs.Bits.{stored, read}
-use Rattle.integers.specs.Linear.{linear, zarith}
+use Rattle.integers.specs.Linear.{linear}
 use Rattle.integers.specs.Size.{natAbs-+, fits, kept}
 use Rattle.arithmetic.specs.declared.wide.Digit.{Digit}
 use Rattle.arithmetic.specs.declared.wide.Quotient.{Quotient}

@@ -1,6 +1,6 @@
 -- `product` meets its contract: both halves of a times b fit one word each, and what the lower one has above 2^32 is carried.
 use Prim.Native.Nat.{ℕ, _/_, _%_, _^_, _<_}
-use mathlib.Core.Path.{_≡_, sym, ap, ap₂, subst, _∙_}
+use mathlib.Core.Path.{_≡_, sym, ap₂, subst}
 use native.Mathlib.Omega.{arith}
 use borrow.Author.Needs.{needs}
 use lib.IntN.{ℤ, pos, _+ℤ_, _*ℤ_}
@@ -10,7 +10,7 @@ use mir.Facts.{toZ-ofZ, toZ-pos}
 use Rattle.integers.specs.Bits.{stored, same}
 use Rattle.integers.specs.Size.{fits, kept}
 use Rattle.arithmetic.specs.Wide.{IsWide, Divides}
-use Rattle.arithmetic.specs.WideLaws.{upper, lower, upper-small, lower-small, high-small, product-is}
+use Rattle.arithmetic.specs.WideLaws.{upper-small, lower-small, high-small, product-is}
 use Rattle.arithmetic.proofs.wide.product.Statement.{statement}
 use Rattle.arithmetic.proofs.wide.product.Tie as tie
 

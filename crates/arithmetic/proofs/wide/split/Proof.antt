@@ -1,19 +1,16 @@
 -- `split` meets its contract: the floor, and what is left, which is a natural below the divisor.
 use Prim.Native.Nat.{ℕ, _^_, _<_}
-use mathlib.Core.Path.{_≡_, sym, ap, ap₂, subst, _∙_}
+use mathlib.Core.Path.{_≡_, sym, ap, ap₂, _∙_}
 use native.Mathlib.Omega.{arith}
 use borrow.Author.Needs.{needs}
 use lib.IntN.{ℤ, pos, natAbs, _-ℤ_, _*ℤ_}
-use lib.Dec.{T}
-use lib.Signed.{nonNeg, _<ℤ_}
 use mir.Syntax.{w64}
-use mir.Val.{toZ, Fits}
+use mir.Val.{toZ}
 use mir.Facts.{toZ-ofZ, toZ-pos}
 use Rattle.integers.specs.Bits.{stored, same}
 use Rattle.integers.specs.Floor.{floorDiv}
-use Rattle.integers.specs.Linear.{linear, zarith}
+use Rattle.integers.specs.Linear.{linear}
 use Rattle.integers.specs.Size.{fits, kept}
-use Rattle.arithmetic.specs.Wide.{OfWord, Divides}
 use Rattle.arithmetic.specs.WideLaws.{left, left-nonneg, left-small, multiple-small, word-split}
 use Rattle.arithmetic.proofs.wide.split.Statement.{statement}
 use Rattle.arithmetic.proofs.wide.split.Tie as tie

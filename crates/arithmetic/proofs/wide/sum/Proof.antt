@@ -1,9 +1,9 @@
 -- `sum` meets its contract: the low words may carry 1.
-use Prim.Native.Nat.{ℕ, _+_, _/_, _%_, _^_, _<_}
-use mathlib.Core.Path.{_≡_, sym, ap₂, subst, _∙_}
+use Prim.Native.Nat.{_+_, _/_, _%_}
+use mathlib.Core.Path.{_≡_, sym, ap₂, subst}
 use native.Mathlib.Omega.{arith}
 use borrow.Author.Needs.{needs}
-use lib.IntN.{ℤ, pos, natAbs, _+ℤ_}
+use lib.IntN.{pos, _+ℤ_}
 use mir.Syntax.{w64}
 use mir.Val.{toZ}
 use mir.Facts.{toZ-pos}
@@ -48,7 +48,8 @@ add-t7 c = fits (all c) (sum-small (s c .pre))
 
 returns : tie.Need-returns
 returns c =
-    subst (λ h. IsWide (valueOf (x c) +ℤ valueOf (y c)) (record { high = h; low = (x c .low + y c .low) % 4294967296 })) (sym (kept w64 (all c) (sum-small (s c .pre))))
+    subst (λ h. IsWide (valueOf (x c) +ℤ valueOf (y c)) (record { high = h; low = (x c .low + y c .low) % 4294967296 }))
+    (sym (kept w64 (all c) (sum-small (s c .pre))))
     (sum-is (s c .pre))
 
 pub sum-spec : {M : Type 1} → statement M

@@ -1,10 +1,9 @@
 -- `variance_sum` meets its contract. The loop's invariant: the total is that of the first m variances.
-use Prim.Native.Nat.{ℕ, _+_, _*_, _-_, _^_, _≤_, _<_}
+use Prim.Native.Nat.{ℕ, _+_, _-_, _^_, _≤_, _<_}
 use mathlib.Core.Path.{_≡_, sym, ap, ap₂, _∙_}
 use native.Mathlib.Omega.{arith}
 use denote.Ref.{now}
 use Rattle.integers.specs.Total.{total-zero, total-next}
-use Rattle.observations.specs.Arrays.{at, broughtWithin}
 use Rattle.projecting.specs.Central.{variancesFrom}
 use Rattle.projecting.specs.CentralLaws.{variances-small}
 use Rattle.projecting.proofs.central.variance_sum.Statement.{statement}
