@@ -4,83 +4,14 @@
 //!     calls listings ROUNDS PROVED PLAIN FILE..   the same of two listing programs, start to end
 //!     calls repeat proved|plain CALL N FILE       one call N times, for a count of instructions
 
+mod proved_desk;
 mod safe_desk;
 
-use safe_desk::{Figures, Judgement, Session, Sweeping, PARTS, TICKS, WEIGHTS};
+use proved_desk::{Held, Projected, System, Told, DONE};
+use safe_desk::{Figures, Judgement, Session, Sweeping, Ultimate, PARTS};
 use std::hint::black_box;
 use std::process::{Command, Stdio};
 use std::time::Instant;
-
-type Weights = [u64; PARTS];
-type Matrix = [i64; PARTS * PARTS];
-type Vector = [i64; PARTS];
-
-/// The session and the answers of include/desk.h.
-#[repr(C)]
-#[derive(Clone)]
-struct Held {
-    held: [u64; 3],
-    own: Weights,
-    matrix: Matrix,
-    right_hand: Vector,
-    mean: Vector,
-    ticks: [i64; TICKS],
-    weights: [u64; WEIGHTS],
-    variances: Weights,
-}
-
-#[repr(C)]
-#[derive(Clone, Copy, Debug, PartialEq, Eq)]
-struct Refusal {
-    number: u64,
-    place: u64,
-}
-
-#[repr(C)]
-#[derive(Clone, Copy, Debug, PartialEq, Eq)]
-struct Told {
-    refusal: Refusal,
-    flag: u64,
-    value: u64,
-}
-
-#[repr(C)]
-struct System {
-    refusal: Refusal,
-    last: u64,
-    closeness: u64,
-    own: Weights,
-    matrix: Matrix,
-    right_hand: Vector,
-}
-
-#[repr(C)]
-#[derive(Clone, Copy, Debug, PartialEq, Eq)]
-struct Shown {
-    refusal: Refusal,
-    start: u64,
-    length: u64,
-}
-
-extern "C" {
-    fn desk_open_lent(
-        held: &mut [u64; 3], own: &mut Weights, matrix: &mut Matrix, right_hand: &mut Vector, mean: &mut Vector,
-        ticks: &mut [i64; TICKS], weights: &mut [u64; WEIGHTS], variances: &mut Weights, file: *const u8, length: usize,
-    ) -> Refusal;
-    fn desk_judge_lent(
-        held: &[u64; 3], own: &Weights, matrix: &Matrix, right_hand: &Vector, mean: &Vector, record: *const u8, length: usize,
-    ) -> Told;
-    fn desk_sweep_lent(held: &mut [u64; 3], own: &Weights, matrix: &Matrix, right_hand: &Vector, mean: &mut Vector, n: u64) -> Told;
-    fn desk_read_lent(
-        held: &[u64; 3], own: &Weights, matrix: &Matrix, right_hand: &Vector, mean: &Vector, buffer: *mut u8, length: usize,
-    ) -> Refusal;
-    fn desk_page_lent(
-        held: &[u64; 3], own: &Weights, matrix: &Matrix, right_hand: &Vector, mean: &Vector, buffer: *mut u8, length: usize,
-    ) -> Refusal;
-    fn desk_figures_lent(held: &[u64; 3], own: &Weights, matrix: &Matrix, right_hand: &Vector, mean: &Vector) -> System;
-    fn desk_close_lent(held: &mut [u64; 3]);
-    fn desk_row(file: *const u8, length: usize, channel: u64, year: u64) -> Shown;
-}
 
 const ROUND_NANOSECONDS: f64 = 1e7; // of one call, over and over
 const LISTINGS: u32 = 100; // runs of a listing program in a round
@@ -88,59 +19,8 @@ const LISTINGS: u32 = 100; // runs of a listing program in a round
 const LONGEST_RECORD: usize = 129;
 const LONGEST_PAGE: usize = 868;
 const INCURRED: usize = 1;
-const DONE: Refusal = Refusal { number: 0, place: 0 };
 
-impl Held {
-    fn empty() -> Self {
-        Held {
-            held: [0; 3],
-            own: [0; PARTS],
-            matrix: [0; PARTS * PARTS],
-            right_hand: [0; PARTS],
-            mean: [0; PARTS],
-            ticks: [0; TICKS],
-            weights: [0; WEIGHTS],
-            variances: [0; PARTS],
-        }
-    }
-    fn open(&mut self, file: &[u8]) -> Refusal {
-        // SAFETY: the pointer is the slice's, valid for its length; the arrays are eight different fields.
-        let Held { held, own, matrix, right_hand, mean, ticks, weights, variances } = self;
-        unsafe { desk_open_lent(held, own, matrix, right_hand, mean, ticks, weights, variances, file.as_ptr(), file.len()) }
-    }
-    fn judge(&self, record: &[u8]) -> Told {
-        // SAFETY: as above.
-        unsafe { desk_judge_lent(&self.held, &self.own, &self.matrix, &self.right_hand, &self.mean, record.as_ptr(), record.len()) }
-    }
-    fn sweep(&mut self, n: u64) -> Told {
-        // SAFETY: the arrays are five different fields.
-        unsafe { desk_sweep_lent(&mut self.held, &self.own, &self.matrix, &self.right_hand, &mut self.mean, n) }
-    }
-    fn read(&self, buffer: &mut [u8]) -> Refusal {
-        // SAFETY: as above; the buffer is a slice apart.
-        unsafe { desk_read_lent(&self.held, &self.own, &self.matrix, &self.right_hand, &self.mean, buffer.as_mut_ptr(), buffer.len()) }
-    }
-    fn page(&self, buffer: &mut [u8]) -> Refusal {
-        // SAFETY: as above.
-        unsafe { desk_page_lent(&self.held, &self.own, &self.matrix, &self.right_hand, &self.mean, buffer.as_mut_ptr(), buffer.len()) }
-    }
-    fn figures(&self) -> System {
-        // SAFETY: the arrays are five different fields.
-        unsafe { desk_figures_lent(&self.held, &self.own, &self.matrix, &self.right_hand, &self.mean) }
-    }
-    fn close(&mut self) {
-        // SAFETY: one array.
-        unsafe { desk_close_lent(&mut self.held) }
-    }
-    fn row(file: &[u8], channel: usize, year: usize) -> &[u8] {
-        // SAFETY: the pointer is the slice's, valid for its length.
-        let shown = unsafe { desk_row(file.as_ptr(), file.len(), channel as u64, year as u64) };
-        assert_eq!(shown.refusal, DONE);
-        &file[shown.start as usize..(shown.start + shown.length) as usize]
-    }
-}
-
-const CALLS: [&str; 8] = ["open", "judge", "one sweep", "sweep until settled", "read", "page", "figures", "row"];
+const CALLS: [&str; 9] = ["open", "judge", "one sweep", "sweep until settled", "read", "page", "ultimate", "figures", "row"];
 
 /// What is timed of either desk; an answer is asserted, not used.
 trait Desk {
@@ -150,6 +30,7 @@ trait Desk {
     fn sweep_from(&mut self, start: &Start, n: u64) -> u64;
     fn read_into(&self, buffer: &mut [u8]);
     fn page_into(&self, buffer: &mut [u8]);
+    fn ultimate_of(&self, year: u64) -> Ultimate;
     fn show_figures(&self);
     fn figures_shown(&self) -> Figures;
     fn start(&self) -> Start;
@@ -182,6 +63,11 @@ impl Desk for Held {
     }
     fn page_into(&self, buffer: &mut [u8]) {
         assert_eq!(self.page(buffer), DONE);
+    }
+    fn ultimate_of(&self, year: u64) -> Ultimate {
+        let Projected { refusal, floor, remainder, divisor } = self.ultimate(year);
+        assert_eq!(refusal, DONE);
+        Ultimate { floor, remainder, divisor }
     }
     fn show_figures(&self) {
         assert_eq!(black_box(&self.figures()).refusal, DONE);
@@ -224,6 +110,9 @@ impl Desk for Session {
     fn page_into(&self, buffer: &mut [u8]) {
         assert!(self.page(buffer).is_ok());
     }
+    fn ultimate_of(&self, year: u64) -> Ultimate {
+        self.ultimate(year).expect("a year of the open file")
+    }
     fn show_figures(&self) {
         assert!(black_box(&self.figures()).is_ok());
     }
@@ -265,6 +154,7 @@ impl<D: Desk> Ready<D> {
                 "judge" => self.desk.judge_passes(black_box(record)),
                 "read" => self.settled.read_into(black_box(&mut buffer)),
                 "page" => self.settled.page_into(black_box(&mut buffer)),
+                "ultimate" => drop(black_box(self.settled.ultimate_of(black_box(u64::from(file[5]))))), // the one with most to come
                 "figures" => black_box(&self.desk).show_figures(),
                 "row" => drop(black_box(D::row_of(black_box(file), INCURRED, usize::from(file[5])))), // the last, which is furthest
                 "one sweep" => drop(black_box(self.desk.sweep_from(&self.start, black_box(1)))),
@@ -296,6 +186,9 @@ impl Pair {
         proved.settled.page_into(&mut page);
         plain.settled.page_into(&mut other);
         assert_eq!(page, other);
+        for year in 1..=u64::from(file[5]) {
+            assert_eq!(proved.settled.ultimate_of(year), plain.settled.ultimate_of(year));
+        }
         for (channel, year) in (0..=INCURRED).flat_map(|channel| (0..=usize::from(file[5])).map(move |year| (channel, year))) {
             assert_eq!(Held::row_of(&file, channel, year), Session::row_of(&file, channel, year));
         }

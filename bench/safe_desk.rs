@@ -42,6 +42,14 @@ pub struct Figures {
     pub right_hand: [i64; PARTS],
 }
 
+/// The central ultimate of an accident year: floor and remainder over the divisor, in ticks.
+#[derive(Clone, Copy, Debug, PartialEq, Eq)]
+pub struct Ultimate {
+    pub floor: i64,
+    pub remainder: u64,
+    pub divisor: u64,
+}
+
 pub struct Session {
     last: usize,
     closeness: u64,
@@ -225,14 +233,16 @@ impl Session {
         Ok(Sweeping::Going(self.total))
     }
 
-    /// Of a call that writes so many bytes of a mean that passes.
-    fn room(&self, buffer: &[u8], length: usize) -> Result<(), Refusal> {
+    fn passing(&self) -> Result<(), Refusal> {
         if self.last == 0 {
             return refuse(21, 0);
         }
-        if self.test(&self.residues(&self.mean)) != Judgement::Passed {
-            return refuse(24, 0);
-        }
+        if self.test(&self.residues(&self.mean)) != Judgement::Passed { refuse(24, 0) } else { Ok(()) }
+    }
+
+    /// Of a call that writes so many bytes of a mean that passes.
+    fn room(&self, buffer: &[u8], length: usize) -> Result<(), Refusal> {
+        self.passing()?;
         if buffer.len() < length { refuse(13, 0) } else { Ok(()) }
     }
 
@@ -257,6 +267,29 @@ impl Session {
             writeln!(line, "{name} {index:>2} {:>9} {:>10}", self.mean[k], self.own[k]).expect("every number fits its columns");
         }
         Ok(length)
+    }
+
+    /// In 128 bits, which Rust has.
+    #[inline(never)]
+    pub fn ultimate(&self, year: u64) -> Result<Ultimate, Refusal> {
+        self.passing()?;
+        if year < 1 || year > self.last as u64 {
+            return refuse(25, 0);
+        }
+        let (last, year) = (self.last, year as usize);
+        let known = last - year;
+        let cell = (0..year).map(|i| last + 1 - i).sum::<usize>() + known;
+        let (phi, psi) = (known + 1..last + 1, last + 1 + known..self.parts());
+        let paid = self.ticks[cell] + self.mean[phi.clone()].iter().sum::<i64>();
+        let incurred = self.ticks[(last + 1) * (last + 2) / 2 + cell] + self.mean[psi.clone()].iter().sum::<i64>();
+        let (n, m): (u64, u64) = (self.variances[phi].iter().sum(), self.variances[psi].iter().sum());
+        let numerator = i128::from(m) * i128::from(paid) + i128::from(n) * i128::from(incurred);
+        let divisor = i128::from(n + m);
+        Ok(Ultimate {
+            floor: numerator.div_euclid(divisor) as i64,
+            remainder: numerator.rem_euclid(divisor) as u64,
+            divisor: n + m,
+        })
     }
 
     /// Behind the parts a session may have what an earlier file left there.
