@@ -221,14 +221,20 @@ DEFINED = {
         "divisor = divisor } | abbrev ultimateOfF : State Bytes → ℕ → Answer | ultimateOfF = ultimateCall figuresOf latestOf | "
         "abbrev smallLatest : Latest | smallLatest = record { logPaid = part (pos 1000 ∷ pos 11 ∷ pos 17 ∷ []); logIncurred = "
         "part (pos 2000 ∷ pos 13 ∷ pos 19 ∷ []); varianceΦ = λ m. getD (1 ∷ 2 ∷ 3 ∷ []) m 0; varianceΨ = λ n. getD (5 ∷ 7 ∷ []) n "
-        "0; | } | abbrev smallMean : List ℤ | smallMean = pos 100 ∷ pos 20 ∷ negsuc 29 ∷ pos 4 ∷ negsuc 49 ∷ [] |",
+        "0; | } | abbrev smallMean : List ℤ | smallMean = pos 100 ∷ pos 20 ∷ negsuc 29 ∷ pos 4 ∷ negsuc 49 ∷ [] | abbrev five : "
+        "Bytes → Bytes | five b = b ++ b ++ b ++ b ++ b | abbrev threeYears : Bytes | threeYears = (0 ∷ 0 ∷ 0 ∷ 206 ∷ 1 ∷ 2 ∷ 0 ∷ "
+        "0 ∷ 1 ∷ 0 ∷ []) ++ five 2^30-in-8 ++ five ((0 ∷ 0 ∷ 0 ∷ 0 ∷ []) ++ 0-in-8) ++ five 1-in-8 ++ five 1-in-8 ++ 1-in-8 ++ "
+        "1-in-8 | abbrev ultimateOfThree : ℕ → Answer | ultimateOfThree = ultimateOfF (holds threeYears (pos 0 ∷ pos 1 ∷ pos 2 ∷ "
+        "pos 3 ∷ pos 4 ∷ []) 0) |",
         "pub F-ultimate : ultimateOfF (holds (fileF 1) (mean 0 0) 0) 1 ≡ ultimate-is (ticks (pos 11534336) 0 2147483648) pub "
         "F-ultimate-half : ultimateOfF (holds (fileF 2) (mean 0 1) 0) 1 ≡ ultimate-is (ticks (pos 11534336) 1073741824 "
         "2147483648) pub F-ultimate-closed : ultimateOfF empty 0 ≡ refused 21 0 pub F-ultimate-failing : ultimateOfF (holds "
         "(fileF 1) (mean 2 0) 0) 0 ≡ refused 24 0 pub F-ultimate-year-0 : ultimateOfF (holds (fileF 1) (mean 0 0) 0) 0 ≡ refused "
         "25 0 pub F-ultimate-year-2 : ultimateOfF (holds (fileF 1) (mean 0 0) 0) 2 ≡ refused 25 0 pub small-ultimate-1 : "
         "ultimateOf 2 smallLatest 1 (part smallMean) ≡ ticks (negsuc 24) 6 10 pub small-ultimate-2 : ultimateOf 2 smallLatest 2 "
-        "(part smallMean) ≡ ticks (negsuc 2) 0 17 |",
+        "(part smallMean) ≡ ticks (negsuc 2) 0 17 pub three-ultimates : ultimateOfThree 1 ∷ ultimateOfThree 2 ∷ [] ≡ ultimate-is "
+        "(ticks (pos 3) 0 2147483648) ∷ ultimate-is (ticks (pos 5) 0 4294967296) ∷ [] pub three-refusals : ultimateOfThree 0 ∷ "
+        "ultimateOfThree 3 ∷ [] ≡ refused 25 0 ∷ refused 25 0 ∷ [] |",
         "| pub jointTable : JointTable | unfolding",
     ),
     "laws/Chains": (

@@ -44,6 +44,7 @@ SAID = {
         "(incurred f i k)) +ℤ sum i (λ n. u (J + 1 + (k + n)))) module _ (taken : accepted f ≡ true) (from : 1 ≤ i) (to : i ≤ J) "
         "where pub exact : let r : Ultimate = ultimateOf J (latestOf f) i u in (r .floor *ℤ pos (N + M) +ℤ pos (r .remainder) ≡ "
         "figure) × (r .remainder < N + M) × (r .divisor ≡ N + M) unfolding",
+        "pub weighed : N + M ≡ ratioVariance f k unfolding",
         "pub only : (floor : ℤ) (remainder : ℕ) → floor *ℤ pos (N + M) +ℤ pos remainder ≡ figure → remainder < N + M → let r : "
         "Ultimate = ultimateOf J (latestOf f) i u in (floor ≡ r .floor) × (remainder ≡ r .remainder) unfolding",
     ),
@@ -173,8 +174,8 @@ SAID = {
         "reads-all",
         "pub pages-all : (lent after : Bytes) (r : Refusal) → Pages s lent r after → Written r after (outcome inSession st (page lent)) "
         "pages-all",
-        "pub projects-all : (year : ℕ) (r : Projected) → Projects o s year r → r ≡ ultimateTold (outcome inSession st (ultimate "
-        "year) .answer) projects-all",
+        "pub projects-all : (year : ℕ) (r : Projected) → ProjectsLent (o .ticks) (o .variances) s year r → r ≡ ultimateTold "
+        "(outcome inSession st (ultimate year) .answer) projects-all",
         "pub closes-all : (held : List ℕ) → Closes held → (D : List ℕ) (A b μ : List ℤ) (p : Observations) → sessionState p (heldIn held "
         "D A b μ) ≡ outcome inSession st close .state unfolding",
     ),

@@ -82,7 +82,7 @@ PINNED = {
         "residue-to divided-to ) )",
     "laws/PinnedLogarithms": "logarithm-bounded logarithm-nearest larger-logarithm one-tick-at-most largest-logarithm",
     "laws/PinnedPage": "( page-bytes ( name-on-page index-on-page ticks-on-page weight-on-page spaces-on-page ) ) never-shared",
-    "laws/PinnedUltimate": "( N M figure ( exact only ) )",
+    "laws/PinnedUltimate": "( N M figure ( exact weighed only ) )",
     "laws/PinnedPriors":
         "prior-variance-taken ( ( accepted-still opened-still row-still ) same-with-priors phi-alone psi-alone phi-owned psi-owned )",
     "laws/Number16":
@@ -138,7 +138,7 @@ OF_THE_AMOUNTS = {
 # F's central ultimate, the refusals of its call, and others with every number another.
 OF_ULTIMATES = {
     "F-ultimate", "F-ultimate-half", "F-ultimate-closed", "F-ultimate-failing", "F-ultimate-year-0", "F-ultimate-year-2",
-    "small-ultimate-1", "small-ultimate-2",
+    "small-ultimate-1", "small-ultimate-2", "three-ultimates", "three-refusals",
 }
 
 # What a session keeps of F besides its figures.

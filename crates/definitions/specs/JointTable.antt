@@ -131,6 +131,20 @@ smallLatest = record {
 abbrev smallMean : List ℤ
 smallMean = pos 100 ∷ pos 20 ∷ negsuc 29 ∷ pos 4 ∷ negsuc 49 ∷ []
 
+abbrev five : Bytes → Bytes
+five b = b ++ b ++ b ++ b ++ b
+
+-- a file with J = 2 and e = 256: σ² and τ² all 2^30, no priors, every amount 1
+abbrev threeYears : Bytes
+threeYears =
+    (0 ∷ 0 ∷ 0 ∷ 206 ∷ 1 ∷ 2 ∷ 0 ∷ 0 ∷ 1 ∷ 0 ∷ [])
+    ++ five 2^30-in-8
+    ++ five ((0 ∷ 0 ∷ 0 ∷ 0 ∷ []) ++ 0-in-8)
+    ++ five 1-in-8 ++ five 1-in-8 ++ 1-in-8 ++ 1-in-8
+
+abbrev ultimateOfThree : ℕ → Answer
+ultimateOfThree = ultimateOfF (holds threeYears (pos 0 ∷ pos 1 ∷ pos 2 ∷ pos 3 ∷ pos 4 ∷ []) 0)
+
 pub record JointTable : Type 0 where
   pub log-of-1 : logarithm 1 ≡ 0
   pub log-of-2^40 : logarithm (2 ^ 40) ≡ 41943040
@@ -242,6 +256,11 @@ pub record JointTable : Type 0 where
   -- 7·(11 − 30) + 3·(13 − 50) over 3 + 7, and 12·(17 + 20 − 30) + 5·(19 + 4 − 50) over 5 + 12: rounded down, not toward 0
   pub small-ultimate-1 : ultimateOf 2 smallLatest 1 (part smallMean) ≡ ticks (negsuc 24) 6 10
   pub small-ultimate-2 : ultimateOf 2 smallLatest 2 (part smallMean) ≡ ticks (negsuc 2) 0 17
+  -- of a file with J = 2 years 1 and 2, (2 + 4) / 2 and (1 + 2 + 3 + 4) / 2 by the mean (0, 1, 2, 3, 4), and no others
+  pub three-ultimates :
+      ultimateOfThree 1 ∷ ultimateOfThree 2 ∷ []
+      ≡ ultimate-is (ticks (pos 3) 0 2147483648) ∷ ultimate-is (ticks (pos 5) 0 4294967296) ∷ []
+  pub three-refusals : ultimateOfThree 0 ∷ ultimateOfThree 3 ∷ [] ≡ refused 25 0 ∷ refused 25 0 ∷ []
 
 pub jointTable : JointTable
 unfolding leadingZeros sum total tabFrom logarithm halfTicks bitsOf highestBit startFrom nextBit nextY weight bigEndian unsigned
@@ -310,4 +329,6 @@ jointTable = record {
   F-ultimate-year-2 = refl;
   small-ultimate-1 = refl;
   small-ultimate-2 = refl;
+  three-ultimates = refl;
+  three-refusals = refl;
 }

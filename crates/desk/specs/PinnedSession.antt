@@ -16,7 +16,7 @@ use Rattle.telling.specs.declared.Judged.{Judged}
 use Rattle.telling.specs.declared.Swept.{Swept}
 use Rattle.telling.specs.declared.Projected.{Projected}
 use Rattle.telling.specs.Told.{refusalTold, judgeTold, sweepTold, ultimateTold}
-use Rattle.desk.specs.Calls.{Opens, Judges, Sweeps, Reads, Pages, Projects, Closes}
+use Rattle.desk.specs.Calls.{Opens, Judges, Sweeps, Reads, Pages, ProjectsLent, Closes}
 
 module _ (o : Observations) (s : Held) where
   abbrev st : State Kept
@@ -51,8 +51,10 @@ module _ (o : Observations) (s : Held) where
       let whole = sym (page-session o s lent) in
       (call .told ∙ ap (λ x. refusalTold (x .answer)) whole, call .buffer ∙ ap (λ x. x .buffer) whole)
 
-  pub projects-all : (year : ℕ) (r : Projected) → Projects o s year r → r ≡ ultimateTold (outcome inSession st (ultimate year) .answer)
-  projects-all year r call = call .told ∙ ap (λ x. ultimateTold (x .answer)) (sym (ultimate-session o s year))
+  -- whatever its weights, which it is not lent
+  pub projects-all : (year : ℕ) (r : Projected) → ProjectsLent (o .ticks) (o .variances) s year r
+      → r ≡ ultimateTold (outcome inSession st (ultimate year) .answer)
+  projects-all year r call = call (o .weights) .told ∙ ap (λ x. ultimateTold (x .answer)) (sym (ultimate-session o s year))
 
   pub closes-all : (held : List ℕ) → Closes held → (D : List ℕ) (A b μ : List ℤ) (p : Observations)
       → sessionState p (heldIn held D A b μ) ≡ outcome inSession st close .state

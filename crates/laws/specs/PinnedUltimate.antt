@@ -9,9 +9,10 @@ use Rattle.integers.specs.Summation.{sum, total}
 use Rattle.definitions.specs.Layout.{Bytes, lastYear, paid, incurred, varianceOf}
 use Rattle.definitions.specs.Logarithm.{logarithm}
 use Rattle.definitions.specs.Refusals.{accepted}
+use Rattle.definitions.specs.Observations.{ratioVariance}
 use Rattle.definitions.specs.Ultimate.{latestOf, Ultimate, paidVariance, incurredVariance, paidUltimate, incurredUltimate, ultimateOf}
 use Rattle.laws.specs.Accepted.{accepted-file}
-use Rattle.laws.specs.Ultimates.{ultimate-unique, file-divided}
+use Rattle.laws.specs.Ultimates.{ultimate-unique, divisor-is, file-divided}
 
 module _ (f : Bytes) (i : ℕ) (u : ℕ → ℤ) where
   abbrev J : ℕ
@@ -37,6 +38,11 @@ module _ (f : Bytes) (i : ℕ) (u : ℕ → ℤ) where
         (r .floor *ℤ pos (N + M) +ℤ pos (r .remainder) ≡ figure) × (r .remainder < N + M) × (r .divisor ≡ N + M)
     unfolding paidVariance incurredVariance paidUltimate incurredUltimate ultimateOf
     exact = let h = file-divided f (accepted-file f taken) from to u in (h .whole, h .below, refl)
+
+    -- the variance whose weight is g_k
+    pub weighed : N + M ≡ ratioVariance f k
+    unfolding paidVariance incurredVariance
+    weighed = divisor-is f (accepted-file f taken) from to
 
     pub only : (floor : ℤ) (remainder : ℕ) → floor *ℤ pos (N + M) +ℤ pos remainder ≡ figure → remainder < N + M
         → let r : Ultimate = ultimateOf J (latestOf f) i u in (floor ≡ r .floor) × (remainder ≡ r .remainder)
