@@ -45,3 +45,12 @@ module _ {s : Held} where
 
     pub passing-held : heldPasses s ≡ true → Passing s Clear
     passing-held passing = record { refused = λ n p e. absurd (clear-refuses e); fits = λ e. h; passing = λ e. passing }
+
+-- what holds of a refusal with 21 or 24, whatever the call: shown of both
+pub by-refusal : {s : Held} {c : Check} → Passing s c → {number place : ℕ} → c ≡ Refuses number place → (P : ℕ → ℕ → Type 0)
+    → (¬ Fits s → P 21 0) → (Fits s → heldPasses s ≡ false → P 24 0) → P number place
+by-refusal {s} {c} checked {number} {place} e P closed failing = by-cause (checked .refused number place e)
+  where
+    by-cause : (place ≡ 0) × (((number ≡ 21) × ¬ Fits s) ⊎ ((number ≡ 24) × Fits s × (heldPasses s ≡ false))) → P number place
+    by-cause (none, inl (is-21, nothing)) = rw (is-21, none) (closed nothing)
+    by-cause (none, inr (is-24, open-file, fails)) = rw (is-24, none) (failing open-file fails)

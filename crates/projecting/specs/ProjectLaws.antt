@@ -1,7 +1,6 @@
 -- The machine's outcome of ultimate, case by case: what the call shows of its answer.
 use Prim.Native.Nat.{ℕ, _≤_, _<_}
 use mathlib.Core.Path.{_≡_, refl, sym, ap, _∙_}
-use mathlib.Core.Logic.{_⊎_, inl, inr}
 use mathlib.Core.Bool.{Bool, true, false, not, cond}
 use mathlib.Core.List.{List}
 use native.Mathlib.Omega.{arith}
@@ -24,7 +23,7 @@ use Rattle.chain.specs.Arrays.{figuresOf, meanOf}
 use Rattle.holding.specs.State.{Held, Fits, stateHeld, stateOf}
 use Rattle.holding.specs.StateLaws.{stateOf-held, stateOf-empty}
 use Rattle.holding.specs.Worth.{worth}
-use Rattle.holding.specs.Passing.{Passing, heldPasses}
+use Rattle.holding.specs.Passing.{Passing, heldPasses, by-refusal}
 use Rattle.projecting.specs.declared.Ultimate.{Ultimate}
 use Rattle.projecting.specs.declared.UltimateAnswer.{UltimateAnswer}
 use Rattle.projecting.specs.declared.UltimateAnswer.the-variants.{Central, Refused}
@@ -111,9 +110,5 @@ module _ (o : Observations) (s : Held) (year : ℕ) where
   -- what 21 and 24 refuse
   pub projects-refused : {c : Check} → Passing s c → {number place : ℕ} → c ≡ Refuses number place
       → Projects o s year (Refused number place)
-  projects-refused checked {number} {place} e = by-cause (checked .refused number place e)
-    where
-      by-cause : (place ≡ 0) × (((number ≡ 21) × ¬ Fits s) ⊎ ((number ≡ 24) × Fits s × (heldPasses s ≡ false)))
-          → Projects o s year (Refused number place)
-      by-cause (none, inl (is-21, closed)) = rw (is-21, none) (projects-closed closed)
-      by-cause (none, inr (is-24, open-file, failing)) = rw (is-24, none) (projects-failing open-file failing)
+  projects-refused checked e = by-refusal checked e (λ number place. Projects o s year (Refused number place))
+      projects-closed projects-failing

@@ -1,7 +1,6 @@
 -- The machine's outcome of a call that writes, case by case: what the call shows of its answer. Each carries what the mean is worth.
 use Prim.Native.Nat.{ℕ, _≤_, _<_}
 use mathlib.Core.Path.{_≡_, refl, sym, ap, _∙_}
-use mathlib.Core.Logic.{_⊎_, inl, inr}
 use mathlib.Core.Bool.{Bool, true, false, not, cond}
 use mathlib.Core.List.{List, _++_}
 use native.Mathlib.Omega.{arith}
@@ -20,7 +19,7 @@ use Rattle.chain.specs.Arrays.{figuresOf, meanOf}
 use Rattle.holding.specs.State.{Held, Fits, stateHeld, stateOf}
 use Rattle.holding.specs.StateLaws.{stateOf-held, stateOf-empty}
 use Rattle.holding.specs.Worth.{worth}
-use Rattle.holding.specs.Passing.{Passing, heldPasses}
+use Rattle.holding.specs.Passing.{Passing, by-refusal}
 use Rattle.writing.specs.declared.WriteAnswer.{WriteAnswer}
 use Rattle.writing.specs.declared.WriteAnswer.the-variants.{Written, Refused}
 use Rattle.writing.specs.Writes.{ofWrite, Text, writesTo, Writes}
@@ -91,9 +90,5 @@ module _ (size : ℕ → ℕ) (text : Text) (s : Held) (before : Bytes) where
   -- what 21 and 24 refuse, whatever was to be written
   pub writes-refused : {c : Check} → Passing s c → {number place : ℕ} → c ≡ Refuses number place
       → Writes size text s before (Refused number place) before
-  writes-refused checked {number} {place} e = by-cause (checked .refused number place e)
-    where
-      by-cause : (place ≡ 0) × (((number ≡ 21) × ¬ Fits s) ⊎ ((number ≡ 24) × Fits s × (heldPasses s ≡ false)))
-          → Writes size text s before (Refused number place) before
-      by-cause (none, inl (is-21, closed)) = rw (is-21, none) (writes-closed closed)
-      by-cause (none, inr (is-24, open-file, failing)) = rw (is-24, none) (writes-failing open-file failing)
+  writes-refused checked e = by-refusal checked e (λ number place. Writes size text s before (Refused number place) before)
+      writes-closed writes-failing
