@@ -42,6 +42,8 @@ class Table3(unittest.TestCase):
             self.assertLessEqual(abs(reserve - printed), 0.0001 * printed)
             self.assertLessEqual(abs(float(apart)), 0.01)
         self.assertEqual(said.splitlines()[-1], table_3.WHY)
+        specification = " ".join((ROOT / "docs" / "SPECIFICATION.md").read_text().split())
+        self.assertIn(f"medians exceed what is paid by {rows[-1][3]}, it is {rows[-1][4]}.", specification)
 
 
 if __name__ == "__main__":
