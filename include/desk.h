@@ -213,7 +213,8 @@ static inline const char *desk_refusal_text(uint64_t number) {
 uint64_t desk_size(uint64_t array);
 
 /* Whether the library that is linked has the sessions of this header: 1, or 0, and then no call that is lent a session is safe. For a
- * program that may meet a library of another version, before its first call. */
+ * program that may meet a library of another version, before its first call. Of a library that is older than this header, with the same
+ * first number, the calls that came later are missing: a program that is linked to it does not start, or ends where it calls one. */
 static inline int desk_fits(void) {
     const desk_session *none = NULL; /* for the sizes of its fields alone */
     const size_t bytes[] = {sizeof none->held, sizeof none->own,   sizeof none->matrix,  sizeof none->right_hand, sizeof none->mean,

@@ -1,4 +1,4 @@
-"""Specification, "The calls": the central ultimate of an accident year, the mean of its logarithm by Theorem 2.4 of the paper."""
+"""Specification, "The central ultimate": that of an accident year, the mean of its logarithm by Theorem 2.4 of the paper."""
 
 from collections.abc import Sequence
 from dataclasses import dataclass

@@ -52,10 +52,20 @@ SAID = {
         "pub ultimate-exact : (F : Figures) (μ : List ℤ) (count : ℕ) → stateOf s ≡ holds F μ count → (u .floor *ℤ pos (u "
         ".divisor) +ℤ pos (u .remainder) ≡ numerator (F .last) (latestWith o F) year (part μ)) × (u .remainder < u .divisor) × (u "
         ".divisor ≡ bothVariances (F .last) (latestWith o F) year) ultimate-exact",
+        "pub ultimate-worth : (f : Bytes) (μ : List ℤ) (count : ℕ) → HoldsFile s f μ count → {e : ℕ} → closeness f ≡ e → Worth f "
+        "e (part μ) ultimate-worth",
+    ),
+    "telling/Pinned": (
+        "pub central-ultimate : (floor : ℤ) (remainder divisor : ℕ) → ultimateTold (ultimate-is (record { floor = floor; "
+        "remainder = remainder; divisor = divisor })) ≡ record { refusal = refusal 0 0; floor = floor; remainder = remainder; "
+        "divisor = divisor } pub refused-ultimate : (number place : ℕ) → ultimateTold (refused number place) ≡ record { refusal = "
+        "refusal number place; floor = pos 0; remainder = 0; divisor = 0 } pub shown-row",
     ),
     "desk/PinnedUltimate": (
         "| abbrev refusedWith : ℕ → Projected | refusedWith number = record { refusal = record { number = number; place = 0 }; "
         "floor = pos 0; remainder = 0; divisor = 0 } |",
+        "pub ultimate-told : r ≡ ultimateTold (projectsTo o (stateOf s) year) ultimate-told",
+        "pub ultimate-numbered : (place : ℕ) → projectsTo o (stateOf s) year ≢ refused 0 place ultimate-numbered",
         "pub ultimate-closed : stateOf s ≡ empty → r ≡ refusedWith 21 unfolding",
         "pub ultimate-failing : passes F (part μ) ≡ false → r ≡ refusedWith 24 unfolding",
         "pub ultimate-year-0 : passes F (part μ) ≡ true → year ≡ 0 → r ≡ refusedWith 25 unfolding",
@@ -65,9 +75,9 @@ SAID = {
         "year) ultimate-exact",
         "pub ultimate-worth : (f : Bytes) (μ : List ℤ) (count : ℕ) → HoldsFile s f μ count → {e : ℕ} → closeness f ≡ e → r "
         ".refusal .number ≡ 0 → Worth f e (part μ) ultimate-worth",
-        "pub ultimate-of-file : accepted f ≡ true → (r .refusal .number ≡ 0) × (r .floor *ℤ pos (N f year (part μ) + M f year "
-        "(part μ)) +ℤ pos (r .remainder) ≡ figure f year (part μ)) × (r .remainder < N f year (part μ) + M f year (part μ)) × (r "
-        ".divisor ≡ N f year (part μ) + M f year (part μ)) ultimate-of-file",
+        "pub ultimate-of-file : accepted f ≡ true → (r .refusal ≡ record { number = 0; place = 0 }) × (r .floor *ℤ pos (N f year "
+        "(part μ) + M f year (part μ)) +ℤ pos (r .remainder) ≡ figure f year (part μ)) × (r .remainder < N f year (part μ) + M f "
+        "year (part μ)) × (r .divisor ≡ N f year (part μ) + M f year (part μ)) ultimate-of-file",
     ),
     "laws/PinnedChains": (
         "| abbrev pub byYear : ℕ → Chain | byYear J = record { last = J; p = λ i j. 3 * i + 7 * j; q = λ i j. 17 * i + 19 * j + 2; s "

@@ -18,7 +18,10 @@ from reserving_desk import Mean, Session, Ultimate, file_of, natural_log, square
 
 LAST = len(PAID) - 1  # J
 CLOSENESS = 256  # in ticks: the sample's
-WHY = "left and Table 3 differ: the mean of a log-normal is above its median, which central is; prediction error is left out of it"
+WHY = (
+    "left is below reserve, and so differs from Table 3: "
+    "the mean of a log-normal is above its median, and prediction error is left out"
+)
 
 # Table 2 prints deviations in units of 0.0001; here they are variances of natural logarithms.
 SIGMA_SQUARED = [(deviation / 10_000) ** 2 for deviation in SIGMA]

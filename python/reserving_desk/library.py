@@ -107,11 +107,15 @@ def load(path: Path) -> ctypes.CDLL:
         raise LibraryMissing(f"no library {path}: run ./build in the checkout, install the package anew, or name the library in {VARIABLE}")
     try:
         library = ctypes.CDLL(str(path.resolve()))
-        for name, (answer, parameters) in FUNCTIONS.items():
-            function = getattr(library, name)
-            function.restype, function.argtypes = answer, parameters
-    except (OSError, AttributeError) as error:
+    except OSError as error:
         raise LibraryMissing(f"{path} is not the desk's library: run ./build in the checkout ({error})") from error
+    lacking = [name for name in FUNCTIONS if not hasattr(library, name)]
+    if lacking:
+        other = "not the desk's library" if len(lacking) == len(FUNCTIONS) else "a library of another version than this package"
+        raise LibraryMissing(f"{path} is {other}: run ./build in the checkout (it has no {', '.join(lacking)})")
+    for name, (answer, parameters) in FUNCTIONS.items():
+        function = getattr(library, name)
+        function.restype, function.argtypes = answer, parameters
     differences = _differences(library.desk_size)
     if differences:
         raise SizesDiffer(f"{path} is not the library of this package: {'; '.join(differences)}")

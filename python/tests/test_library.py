@@ -1,5 +1,6 @@
 """The library is found, or what to do is said."""
 
+import _ctypes
 import os
 import shutil
 import tempfile
@@ -44,14 +45,16 @@ class Library(unittest.TestCase):
 
     def test_one_that_lacks_a_call(self) -> None:
         """As an older one does."""
+        said = r"is a library of another version than this package: run \./build .*it has no desk_later_lent\)$"
         with mock.patch.dict(package.FUNCTIONS, {"desk_later_lent": (None, [])}):
-            with self.assertRaisesRegex(LibraryMissing, r"is not the desk's library: run \./build .*desk_later_lent"):
+            with self.assertRaisesRegex(LibraryMissing, said):
                 package.load.__wrapped__(library_path())
 
     def test_something_else(self) -> None:
-        with mock.patch.dict(os.environ, {VARIABLE: __file__}):
-            with self.assertRaisesRegex(LibraryMissing, r"is not the desk's library: run \./build"):
-                Session()
+        for other in (__file__, _ctypes.__file__):  # no library, and another one
+            with mock.patch.dict(os.environ, {VARIABLE: other}):
+                with self.assertRaisesRegex(LibraryMissing, r"is not the desk's library: run \./build"):
+                    Session()
 
 
 if __name__ == "__main__":

@@ -84,6 +84,9 @@ class ByNumber(unittest.TestCase):
             ((25, "accident year", 0), lambda: opened(F).ultimate(0)),
             ((25, "accident year", 2), lambda: opened(F).ultimate(2)),
             ((25, "accident year", -1), lambda: opened(F).ultimate(-1)),
+            ((25, "accident year", 257), lambda: opened(F).ultimate(257)),
+            ((25, "accident year", (1 << 32) + 1), lambda: opened(F).ultimate((1 << 32) + 1)),
+            ((25, "accident year", (1 << 64) - 1), lambda: opened(F).ultimate((1 << 64) - 1)),
             ((25, "accident year", (1 << 64) + 1), lambda: opened(F).ultimate((1 << 64) + 1)),
         ):
             refused = refusal_of(call)

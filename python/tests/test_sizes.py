@@ -53,7 +53,7 @@ class Sizes(unittest.TestCase):
     def test_a_library_of_the_version_before(self) -> None:
         """It has no such function, and is not called."""
         with mock.patch.dict(package.FUNCTIONS, {"desk_sizes": package.FUNCTIONS["desk_size"]}):
-            with self.assertRaisesRegex(LibraryMissing, "is not the desk's library"):
+            with self.assertRaisesRegex(LibraryMissing, "is a library of another version"):
                 load_anew()
 
     def test_numbers_of_four_bytes(self) -> None:

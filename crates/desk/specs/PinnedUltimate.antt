@@ -82,7 +82,7 @@ module _ (o : Observations) (s : Held) (year : ℕ) (r : Projected) (call : Proj
         ∙ rw (p, le-leb 1 year from, le-leb year (lastYear f) to) refl
 
     pub ultimate-of-file : accepted f ≡ true
-        → (r .refusal .number ≡ 0)
+        → (r .refusal ≡ record { number = 0; place = 0 })
         × (r .floor *ℤ pos (N f year (part μ) + M f year (part μ)) +ℤ pos (r .remainder) ≡ figure f year (part μ))
         × (r .remainder < N f year (part μ) + M f year (part μ))
         × (r .divisor ≡ N f year (part μ) + M f year (part μ))

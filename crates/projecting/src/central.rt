@@ -68,7 +68,7 @@ fn side_of<'a>(
     }
 }
 
-// Each side weighted by the variance of the other. The products have up to 76 bits.
+// Each side weighted by the variance of the other. The products are below 2^74 in size, and so of two words.
 fn weighted(paid: Side, incurred: Side) -> Ultimate
     requires { ⌜ OfSides paid incurred ⌝ }
     ensures { λ r. ⌜ Weighted paid incurred r ⌝ }
