@@ -60,7 +60,7 @@ module _ (J : ℕ) (a : Latest) (i : ℕ) (u : Vector) where
   unfolding ultimateOf
   ultimate-unique h = divided-unique h
 
--- the same amounts, variances and parts as far as they exist
+-- the same latest amounts and variances, as far as they exist
 pub record SameLatest (J : ℕ) (a b : Latest) : Type 0 where
   pub logPaid : (i : ℕ) → i ≤ J → a .logPaid i ≡ b .logPaid i
   pub logIncurred : (i : ℕ) → i ≤ J → a .logIncurred i ≡ b .logIncurred i
