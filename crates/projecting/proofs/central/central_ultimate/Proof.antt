@@ -43,7 +43,14 @@ add-side-of : tie.Need-add-side-of
 add-side-of c = search needs
 
 side-of-requires : tie.Need-side-of-requires
-side-of-requires c κs = paid-needs c
+side-of-requires c κs = let h = s c .pre in record {
+  run = record {
+    inside = omega (arith, h .few, h .to);
+    few = omega (arith, h .few, h .to);
+    small = λ m below. h .small _ (omega (arith, h .to));
+  };
+  cell-inside = omega (arith, paid-needs c .cell-inside);
+}
 
 cells-of-requires : tie.Need-cells-of-requires
 cells-of-requires c κs = search needs
@@ -72,7 +79,14 @@ add-side-of-4 : tie.Need-add-side-of-4
 add-side-of-4 c = search needs
 
 side-of-requires-2 : tie.Need-side-of-requires-2
-side-of-requires-2 c κs = incurred-needs c
+side-of-requires-2 c κs = let h = s (started c) .pre in record {
+  run = record {
+    inside = omega (arith, h .few, h .to);
+    few = omega (arith, h .few, h .to);
+    small = λ m below. h .small _ (omega (arith, h .to));
+  };
+  cell-inside = omega (arith, incurred-needs c .cell-inside);
+}
 
 -- both sides
 module _ (c : tie.After-side-of2) where
