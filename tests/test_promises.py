@@ -6,6 +6,7 @@ import unittest
 from believed import border, contract, file_of, modules_of_contract
 from declared import ROOT, text_of
 from letters import DEFINED
+from letters_of_contracts import PROMISED
 from letters_of_pins import SAID, SUPPOSED
 from unused import without_comments
 
@@ -17,8 +18,10 @@ OF_C = f"(heldIn (now (held .entry)) {ARRAYS})"
 OPENED = f"(heldIn (now (held .exit)) {ARRAYS.replace('.entry', '.exit')})"
 BUFFER = "(now (buffer .entry)) r (now (buffer .exit))"
 EMPTY = "stateOf (heldBy r) ≡ State.empty"
-OBSERVED = "(observationsAt (now (ticks .entry)) (now (weights .entry)) (now (variances .entry)))"
+OBSERVED = "(observationsAt (now (ticks .entry)) (now (weights .entry)) (now (variances .entry)) (now (struck .entry)))"
 OPENS = f"Opens {OF_C} {OBSERVED} (now (file .entry)) r {OPENED} {OBSERVED.replace('.entry', '.exit')}"
+KEPT = "(now (ticks .entry)) (now (weights .entry)) (now (struck .entry))"
+STRIKES = f"StrikesLent channel year column {OF_C} {KEPT} r {OPENED} {KEPT.replace('.entry', '.exit')}"
 PROJECTS = "ProjectsLent (now (ticks .entry)) (now (variances .entry))"
 CONTRACTS = {
     "empty": (EMPTY, "holding/State session/Value definitions/Machine"),
@@ -31,6 +34,10 @@ CONTRACTS = {
     "read": (f"Reads (heldBy s) {BUFFER}", "writing/Writes session/Value"),
     "page": (f"Pages (heldBy s) {BUFFER}", "writing/Writes session/Value"),
     "ultimate": ("Projects (s .observations) (heldBy s) year r", "projecting/Projects session/Value"),
+    "strike": (
+        "Strikes (step channel year column) (heldBy s) (s .observations) (r .answer) (heldBy (r .session)) (r .session .observations)",
+        "striking/Strikes session/Value definitions/Strikes",
+    ),
     "figures": ("Shows (heldBy s) r", "showing/Shows session/Value"),
     "close": (EMPTY, "holding/State session/Value definitions/Machine"),
     "open_lent": (OPENS, "opening/Opens holding/State observations/Arrays"),
@@ -42,6 +49,7 @@ CONTRACTS = {
     "read_lent": (f"Reads {LENT} {BUFFER}", "writing/Writes holding/State"),
     "page_lent": (f"Pages {LENT} {BUFFER}", "writing/Writes holding/State"),
     "ultimate_lent": (f"{PROJECTS} {LENT} year r", "projecting/Projects holding/State"),
+    "strike_lent": (STRIKES, "striking/Strikes holding/State"),
     "figures_lent": (f"Shows {LENT} r", "showing/Shows holding/State"),
     "row": ("now r ≡ rowPart (now (s .entry)) channel year", "definitions/Machine"),
     "row_told": ("told r ≡ rowCheck (now (s .entry)) channel year", "definitions/Refusals layout/Checks"),
@@ -51,6 +59,7 @@ CONTRACTS = {
     "desk_read_lent": (f"Reads {OF_C} {BUFFER}", "desk/Calls holding/State"),
     "desk_page_lent": (f"Pages {OF_C} {BUFFER}", "desk/Calls holding/State"),
     "desk_ultimate_lent": (f"{PROJECTS} {OF_C} year r", "desk/Calls holding/State"),
+    "desk_strike_lent": (STRIKES, "desk/Calls holding/State"),
     "desk_figures_lent": (f"Shows {OF_C} r", "desk/Calls holding/State"),
     "desk_close_lent": ("Closes (now (held .exit))", "desk/Calls"),
     "desk_row": ("ShowsRow (now (file .entry)) channel year r", "desk/Calls"),
@@ -71,8 +80,8 @@ BESIDES = {"list": INSIDE, "board": INSIDE, "sweep": " ensures { λ r. ⌜ r .se
 PINNED = {
     "laws/Pinned":
         "( Each Worth nearly-least near strictly-least worth Near room limits m u some exact half rounded ( at-the-bound near-passes ) "
-        ") ( Machine opens judges judges-alone sweeps reads reads-alone pages pages-alone ultimates shows tells closes machine ) in-table "
-        "same-outcomes row-empty loss-around",
+        ") ( Machine opens judges judges-alone sweeps reads reads-alone pages pages-alone ultimates strikes shows tells closes machine ) "
+        "in-table same-outcomes row-empty loss-around",
     "laws/PinnedChains":
         "byYear Figured own-weights entries right-hands loss-of-u loss-of-half-u figured ( by-year-bounded by-year-carried ( "
         "by-year-worth by-year-rounding ) )",
@@ -88,8 +97,11 @@ PINNED = {
     "laws/Number16":
         "( oneToTen accepted-exactly positive check16 zero-refused no-zero-clear ) refuses-no-bytes ( openWith16 alike-without-16 "
         "never-16 )",
+    "laws/PinnedStrikes":
+        "( ( phi-left right-hand-phi-left ) psi-left right-hand-psi-left ) ( paid-term-leaves incurred-term-leaves ) ( reached-accepted "
+        "reached-paid reached-incurred )",
     "row_starts/Pinned": "( sixteen cells-counted none-counted )",
-    "holding/Pinned": "( open-file reached-open )",
+    "holding/Pinned": "( open-file ( reached-open reached-holds ) )",
     "laws/Columns":
         "( ) ( ( own-of-phi firsts-of-phi ) ( own-of-psi firsts-of-psi ) ) ( ( own-phi right-hand-phi ) own-psi right-hand-psi )",
     "opening/Pinned": "open-refused ( opened-keeps opened-holds ) as-with-16",
@@ -97,23 +109,27 @@ PINNED = {
     "sweeping/Pinned": "( sweep-worth sweep-rounded ) sweep-refused",
     "writing/Pinned": "( write-worth )",
     "projecting/Pinned": "( ultimate-exact ultimate-worth )",
+    "striking/Pinned": "strike-refused ( struck-keeps struck-holds )",
     "showing/Pinned":
         "( none-shown ( shown-numbers shown-own shown-entry shown-right-hand ) ( numbers-of-file own-of-file entry-of-file "
         "right-hand-of-file ) )",
     "session/Pinned": "held-whole",
     "telling/Pinned":
-        "Pinned opened-file refused-file written-mean passed-mean failing-mean refused-record settled-mean going-mean refused-sweeps "
-        "central-ultimate refused-ultimate shown-row row-of-F refused-row shown-system refused-system pinned",
+        "Pinned opened-file refused-file written-mean struck-step passed-mean failing-mean refused-record settled-mean going-mean "
+        "refused-sweeps central-ultimate refused-ultimate shown-row row-of-F refused-row shown-system refused-system pinned",
     "desk/Pinned":
         "( ( open-told open-state open-refused open-numbered ) ( sweep-told sweep-state sweep-refused sweep-numbered ) closed ) ( ( "
         "judge-told judge-numbered ) ( write-told write-buffer write-numbered ) page-closed ( read-record page-written page-short ) ) ( "
         "none-shown figures-numbered ( shown-numbers shown-own shown-entry shown-right-hand ) ( numbers-of-file own-of-file "
         "entry-of-file right-hand-of-file ) ) ( row-told row-shows row-inside row-empty row-numbered ) ( ( judge-worth judge-rounded ) "
         "( sweep-worth sweep-rounded ) write-worth )",
-    "desk/PinnedSession": "( opens-all judges-all sweeps-all reads-all pages-all projects-all closes-all )",
+    "desk/PinnedSession": "( opens-all strikes-all judges-all sweeps-all reads-all pages-all projects-all closes-all )",
     "desk/PinnedUltimate":
         "( ultimate-told ultimate-numbered ultimate-closed ( ultimate-failing ultimate-year-0 ultimate-behind ultimate-exact ) "
         "ultimate-worth ( ultimate-of-file ) )",
+    "desk/PinnedStrikes":
+        "( strike-told strike-numbered strike-state strike-refused strike-closed ( no-channel no-paid-step no-incurred-step "
+        "struck-already last-left ) )",
 }
 
 # The examples that document 01 marks with a star ("Figures to agree on").
@@ -141,8 +157,15 @@ OF_ULTIMATES = {
     "small-ultimate-1", "small-ultimate-2", "three-ultimates", "three-refusals",
 }
 
-# What a session keeps of F besides its figures.
-OF_A_SESSION = {"F-observed"}
+# F without x_(0,0), files with other struck steps, the refusals of a strike in their order, and what it leaves.
+OF_STRIKES = {
+    "struck-own", "struck-matrix", "struck-right-hand", "struck-first", "struck-second", "three-own", "three-paid-struck",
+    "three-incurred-struck", "strike-closed", "strike-channel", "strike-behind", "strike-behind-incurred", "strike-alone", "strike-again",
+    "strike-last", "strike-done", "strike-refused", "struck-forgotten",
+}
+
+# What a session keeps of F besides its figures, and with a step struck.
+OF_A_SESSION = {"F-observed", "struck-kept", "struck-marks"}
 
 # Those of document 02's page and of its call, and the listing beside them.
 OF_THE_PAGE = {
@@ -180,7 +203,7 @@ class Promises(unittest.TestCase):
             self.assertEqual(outline(text_of("crates/{}/specs/{}.antt".format(*file.split("/")))), names.split(), file)
 
     def test_what_is_said_to_the_letter(self) -> None:
-        for file, said in (DEFINED | SAID).items():
+        for file, said in (DEFINED | PROMISED | SAID).items():
             text = STRING.sub('""', without_comments(ROOT / "crates/{}/specs/{}.antt".format(*file.split("/"))))
             lines = " ".join(re.sub(r"\n(?=\S)|$", " | ", text).split())  # with a bar before whatever stands in no module, and at the end
             for words in said:
@@ -199,7 +222,7 @@ class Promises(unittest.TestCase):
 
     def test_cases_of_the_joint_table(self) -> None:
         table = text_of("crates/definitions/specs/JointTable.antt").split("pub record JointTable")[1].split("pub jointTable")[0]
-        expected = STARRED | OF_A_SESSION | OF_THE_PAGE | WITHOUT_PRIORS | OF_THE_AMOUNTS | OF_ULTIMATES
+        expected = STARRED | OF_A_SESSION | OF_THE_PAGE | WITHOUT_PRIORS | OF_THE_AMOUNTS | OF_ULTIMATES | OF_STRIKES
         self.assertEqual(set(re.findall(r"^  pub (\S+) :", table, re.MULTILINE)), expected)
 
     def test_every_call_is_in_the_specification(self) -> None:
@@ -221,7 +244,7 @@ class Promises(unittest.TestCase):
             self.assertRegex(text_of("test"), rf"(?m)^ *(?:if .*; then )?{re.escape(command)}")
         for step in ("replay", "list", "write"):
             self.assertIn(f'\n{step}\n{step} "${{watched[@]}}"\n', text_of("tests/c/run"))
-        for step in ("desk_test", "ultimate_test", "spoiled_test"):
+        for step in ("desk_test", "ultimate_test", "strike_test", "spoiled_test"):
             self.assertRegex(text_of("tests/c/run"), rf'(?m)^\w+=\$\("\$built/{step}"')
             self.assertIn(f'\n"${{watched[@]}}" "$built/{step}"', text_of("tests/c/run"))
         for step in ("header_test_c", "header_test_cpp"):

@@ -37,9 +37,11 @@ LOCAL = {
     "chain/Arrays": "closeness own matrix rightHand figuresOf meanOf",
     "definitions/Matrix": "closeness",
     "definitions/Page": "own weight",
+    "definitions/Strikes": "paid incurred",
     "definitions/Text": "columns",
     "desk/Calls": "own",
     "desk/Pinned": "own",
+    "desk/PinnedStrikes": "paid incurred",
     "holding/State": "closeness own",
     "laws/Pinned": "listed machine sweeps",
     "laws/PinnedPage": "weight",
@@ -47,6 +49,12 @@ LOCAL = {
     "telling/Pinned": "length closeness own matrix part",
     "telling/Told": "length closeness shown own matrix part",
 }
+
+# A constructor that has the name of a definition, and its file: a file's import says which of the two it has.
+TWICE = {"step": "definitions/Strikes"}
+
+# What the joint table speaks of: names that no other file has, and which elsewhere are variables.
+EXAMPLES, TABLE = "definitions/Examples", "definitions/JointTable"
 
 # Where `total` is that of the sweeps, and no sum.
 OF_SWEEPS = set(
@@ -75,6 +83,13 @@ def local_to(name: str) -> set[str]:
     return {*LOCAL.get(file, "").split(), *(["total"] if file in OF_SWEEPS else [])}
 
 
+def constructors_of(name: str) -> set[str]:
+    """Those of TWICE that a file has, as it declares or imports them."""
+    brought = dict(imported(name))
+    modules = {word: r"Rattle.{}(·specs)?\.specs\.{}".format(*file.split("/")) for word, file in TWICE.items()}
+    return {word for word, file in TWICE.items() if file == file_at(name) or re.fullmatch(modules[word], brought.get(word, ""))}
+
+
 def path_of(file: str) -> str:
     return "crates/{}/specs/{}.antt".format(*file.split("/"))
 
@@ -84,8 +99,8 @@ def file_at(path: str) -> str:
 
 
 def said() -> list[str]:
-    """The files that are to be read: what the contracts rest on, the pins, and the joint table."""
-    return sorted({*reached()[0], *map(path_of, PINNED), path_of("definitions/JointTable")})
+    """The files that are to be read: what the contracts rest on, the pins, and the joint table with its examples."""
+    return sorted({*reached()[0], *map(path_of, PINNED), path_of(EXAMPLES), path_of(TABLE)})
 
 
 def sources(ending: str) -> list[str]:
@@ -132,9 +147,10 @@ def names_of_the_kit() -> dict[str, set[str]]:
 
 
 def names_of_definitions() -> list[tuple[str, str]]:
-    """Each name that `definitions` and the sums declare, and the file of its module."""
+    """Each name that `definitions` and the sums declare, but for the examples, and the file of its module."""
     declared = r"^ *(?:(?:abbrev|unfoldable) pub|pub (?:record|data)) ([^\s{]+)"
     paths = [path for path in sources(".antt") if path.startswith("crates/definitions/specs/") or path == path_of(SUMS)]
+    paths.remove(path_of(EXAMPLES))
     return [(word, path) for path in paths for word in re.findall(declared, text_of(path), re.MULTILINE)]
 
 
@@ -185,12 +201,17 @@ class Symbols(unittest.TestCase):
         self.assertEqual(len(definitions), len(names_of_definitions()))
         for name in said():
             brought = dict(imported(name))
-            local = local_to(name) | {word for word in definitions if definitions[word] == name}
+            local = local_to(name) | {word for word in definitions if definitions[word] == name} | constructors_of(name)
             self.assertLessEqual(bound_in(name) & definitions.keys(), local, name)
             for word in words_of(name) & definitions.keys() - local:
                 files = {SUMS, HANDED_ON} if file_at(definitions[word]) == SUMS else {file_at(definitions[word])}
                 modules = "|".join(r"Rattle.{}(·specs)?\.specs\.{}".format(*file.split("/")) for file in files)
                 self.assertRegex(brought.get(word, ""), rf"^({modules}|{ALSO_MEANT})$", f"{name}: {word}")
+
+    def test_examples_are_the_joint_table_s(self) -> None:
+        module = re.compile(r"^ *(?:pub |ghost |unfoldable )*use Rattle.definitions(?:·specs)?\.specs\.Examples\b", re.MULTILINE)
+        users = [name for name in sources(".antt") + sources(".rt") if module.search(text_of(name))]
+        self.assertEqual(users, [path_of(TABLE)])
 
     def test_sums_are_handed_on_as_they_are(self) -> None:
         self.assertIn("unfoldable pub use Rattle.integers.specs.Summation.{sum, total}\n", text_of(path_of(HANDED_ON)))

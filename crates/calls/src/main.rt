@@ -5,6 +5,7 @@ use crate::printing::print_judge;
 use crate::printing::print_open;
 use crate::printing::print_refusal;
 use crate::printing::print_script;
+use crate::printing::print_strike;
 use crate::printing::print_sweep;
 use crate::printing::print_ultimate;
 use crate::printing::print_write;
@@ -24,6 +25,7 @@ use session::calls::judge;
 use session::calls::open;
 use session::calls::page;
 use session::calls::read;
+use session::calls::strike;
 use session::calls::sweep;
 use session::calls::ultimate;
 use session::state::empty;
@@ -125,6 +127,25 @@ fn run_ultimate(s: Session) -> Step {
     }
 }
 
+fn run_strike(s: Session) -> Step {
+    let Field::Value(channel) = read_number() else {
+        return script_ends(s);
+    };
+    let Field::Value(year) = read_number() else {
+        return script_ends(s);
+    };
+    let Field::Value(column) = read_number() else {
+        return script_ends(s);
+    };
+    let striking = strike(s, channel, year, column);
+    let session = striking.session;
+    let answer = striking.answer;
+    Step {
+        session: session,
+        goes_on: print_strike(answer),
+    }
+}
+
 fn print_row(file: &[u8], channel: usize, year: usize) -> bool {
     let told = row_told(file, channel, year);
     match told {
@@ -176,6 +197,7 @@ fn run(s: Session, letter: u8) -> Step {
         b's' => run_sweep(s),
         b'r' | b'p' => run_writing(s, letter),
         b'u' => run_ultimate(s),
+        b'k' => run_strike(s),
         b'f' => run_figures(s),
         b'w' => run_row(s),
         b'c' => run_close(s),

@@ -9,6 +9,7 @@ use chain::judge::size;
 use libc::STDOUT_FILENO;
 use session::answers::JudgeAnswer;
 use session::answers::OpenAnswer;
+use session::answers::StrikeAnswer;
 use session::answers::SweepAnswer;
 use session::answers::UltimateAnswer;
 use session::answers::WriteAnswer;
@@ -73,6 +74,13 @@ pub fn print_ultimate(answer: UltimateAnswer) -> bool {
             print(b"ultimate") && print_signed(found.floor) && print_count(b" ", found.remainder)
         }
         UltimateAnswer::Refused(number, place) => print_refusal(number, place),
+    }
+}
+
+pub fn print_strike(answer: StrikeAnswer) -> bool {
+    match answer {
+        StrikeAnswer::Struck => print(b"struck\n"),
+        StrikeAnswer::Refused(number, place) => print_refusal(number, place),
     }
 }
 

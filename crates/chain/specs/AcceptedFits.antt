@@ -1,25 +1,26 @@
--- The figures of a chain that is bounded and carried fit, and so do those of an accepted file: no sum wraps for a session that `open` made.
+-- The figures of a bounded chain fit where each part has an own weight, and so do those of an accepted file, whatever steps are struck: no
+-- sum wraps for a session that calls made.
 use Prim.Native.Nat.{ℕ, _≤_, _<_}
-use mathlib.Core.Path.{_≡_, sym, ap, subst}
-use mathlib.Core.Bool.{true}
+use mathlib.Core.Path.{sym, ap, subst}
 use native.Mathlib.Omega.{arith}
 use lib.IntN.{pos, natAbs}
 use lib.Signed.{_≤ℤ_}
 use Rattle.integers.specs.Linear.{linear}
-use Rattle.definitions.specs.Layout.{Bytes, closeness, parts}
-use Rattle.definitions.specs.Observations.{Chain, chainOf}
-use Rattle.definitions.specs.Matrix.{own, matrix, rightHand, figuresFrom, figuresOf, entry}
-use Rattle.definitions.specs.Refusals.{closenessLimit, accepted}
-use Rattle.laws.specs.Accepted.{AcceptedFile, accepted-file}
-use Rattle.laws.specs.Chains.{Bounded, Carried}
+use Rattle.definitions.specs.Layout.{closeness, parts}
+use Rattle.definitions.specs.Observations.{Chain}
+use Rattle.definitions.specs.Matrix.{own, matrix, rightHand, figuresFrom, entry}
+use Rattle.definitions.specs.Refusals.{closenessLimit}
+use Rattle.definitions.specs.Strikes.{StruckFile, Admitted, chainLeft, figuresLeft}
+use Rattle.laws.specs.Accepted.{accepted-file}
+use Rattle.laws.specs.Chains.{Bounded, carried-owned}
 use Rattle.laws.specs.ChainLimits.{chain-limits, entry-fits, diagonal-fits, right-hand-fits}
-use Rattle.laws.specs.Diagonal.{diagonal-positive}
-use Rattle.laws.specs.FileChain.{file-chain}
+use Rattle.laws.specs.Diagonal.{diagonal-owned}
+use Rattle.laws.specs.StruckChain.{struck-chain}
 use Rattle.laws.specs.Judged.{entry-of-chain}
 use Rattle.laws.specs.Tables.{tab-at}
 use Rattle.chain.specs.Fitting.{Fitting, diagonalLimit, entryLimit}
 
-module _ (c : Chain) (e : ℕ) (bounded : Bounded c) (carried : Carried c) where
+module _ (c : Chain) (e : ℕ) (bounded : Bounded c) (owned : (k : ℕ) → k < parts (c .last) → 1 ≤ own c k) where
   abbrev count : ℕ
   count = parts (c .last)
 
@@ -40,15 +41,15 @@ module _ (c : Chain) (e : ℕ) (bounded : Bounded c) (carried : Carried c) where
     close = close;
     own-weights = λ k below. omega (arith, chain-limits c bounded .own-to k below, tab-at count (own c) k 0 below);
     entries = off-diagonal;
-    diagonal = λ k below. subst (λ a. pos 1 ≤ℤ a) (sym (entry-of-chain c e k k below below)) (diagonal-positive c carried k below);
+    diagonal = λ k below. subst (λ a. pos 1 ≤ℤ a) (sym (entry-of-chain c e k k below below)) (diagonal-owned c k below (owned k below));
     diagonal-to = λ k below. subst (λ a. a ≤ℤ pos diagonalLimit) (sym (entry-of-chain c e k k below below)) (diagonal-at-most k below);
     right-hand = λ k below.
         let small = right-hand-fits c bounded k below in
         omega (arith, small, ap natAbs (tab-at count (rightHand c) k (pos 0) below));
   }
 
-pub file-fits : (f : Bytes) → AcceptedFile f → Fitting (figuresOf f)
-file-fits f h = let both = file-chain f h in chain-fits (chainOf f) (closeness f) (both .0) (both .1) (h .close .to)
-
-pub accepted-fits : (f : Bytes) → accepted f ≡ true → Fitting (figuresOf f)
-accepted-fits f h = file-fits f (accepted-file f h)
+pub admitted-fits : (f : StruckFile) → Admitted f → Fitting (figuresLeft f)
+admitted-fits f h =
+    let both = struck-chain f h in
+    chain-fits (chainLeft f) (closeness (f .file)) (both .0) (carried-owned (chainLeft f) (both .1) .owned)
+    (accepted-file (f .file) (h .taken) .close .to)

@@ -1,6 +1,6 @@
--- Demand 3: what a passed mean is worth, of observations with a closeness e, and so of every accepted file. A rational vector is any u
--- over one m ≥ 1, with no limits; of u only the parts 0..2J count. Whole numbers alone are compared: a loss is m² times as large here,
--- a residue m times, a distance m²·ΣD times.
+-- Demand 3: what a passed mean is worth, of observations with a closeness e, and so of every accepted file, whatever steps are struck. A
+-- rational vector is any u over one m ≥ 1, with no limits; of u only the parts 0..2J count. Whole numbers alone are compared: a loss is
+-- m² times as large here, a residue m times, a distance m²·ΣD times.
 use Prim.Native.Nat.{ℕ, _*_, _≤_, _<_}
 use mathlib.Core.Path.{_≡_}
 use mathlib.Core.Logic.{_≢_}
@@ -8,11 +8,12 @@ use mathlib.Core.Bool.{true}
 use lib.IntN.{ℤ, pos, natAbs, _+ℤ_, _-ℤ_, _*ℤ_}
 use lib.Signed.{_≤ℤ_, _<ℤ_}
 use Rattle.integers.specs.Summation.{sum, total}
-use Rattle.definitions.specs.Layout.{Bytes, closeness, parts}
-use Rattle.definitions.specs.Refusals.{partLimit, accepted}
-use Rattle.definitions.specs.Observations.{Chain, chainOf}
+use Rattle.definitions.specs.Layout.{closeness, parts}
+use Rattle.definitions.specs.Refusals.{partLimit}
+use Rattle.definitions.specs.Observations.{Chain}
 use Rattle.definitions.specs.Loss.{Vector, weighted, loss, lossTimes}
-use Rattle.definitions.specs.Matrix.{own, residueTimes, figuresFrom, figuresOf, passes}
+use Rattle.definitions.specs.Matrix.{own, residueTimes, figuresFrom, passes}
+use Rattle.definitions.specs.Strikes.{StruckFile, Admitted, chainLeft, figuresLeft}
 
 module _ (c : Chain) (e : ℕ) where
   abbrev pub partsOf : ℕ
@@ -66,8 +67,8 @@ module _ (c : Chain) (e : ℕ) where
   abbrev pub RoundingPasses : Type 0
   RoundingPasses = (μ : Vector) → Rounded μ → passes (figuresFrom c e) μ ≡ true
 
--- demand 3, whole: for every accepted file, whoever proposed the mean
+-- demand 3, whole: for every accepted file and whatever steps are struck while one is left in each column, whoever proposed the mean
 pub record Demand3 : Type 0 where
-  pub guarantee : (f : Bytes) → accepted f ≡ true → (μ : Vector) → passes (figuresOf f) μ ≡ true
-      → Guarantee (chainOf f) (closeness f) μ
-  pub rounding : (f : Bytes) → accepted f ≡ true → RoundingPasses (chainOf f) (closeness f)
+  pub guarantee : (f : StruckFile) → Admitted f → (μ : Vector) → passes (figuresLeft f) μ ≡ true
+      → Guarantee (chainLeft f) (closeness (f .file)) μ
+  pub rounding : (f : StruckFile) → Admitted f → RoundingPasses (chainLeft f) (closeness (f .file))

@@ -1,149 +1,31 @@
 -- The specification's examples that document 01 marks with a star ("Figures to agree on"), the page and the listing of F, F without
--- priors, F with the largest amounts, and central ultimates, together, computed from the definitions.
-use Prim.Native.Nat.{ℕ, _+_, _^_}
+-- priors, F with the largest amounts, central ultimates, and struck steps, together, computed from the definitions.
+use Prim.Native.Nat.{_^_}
 use mathlib.Core.Path.{_≡_, refl}
-use mathlib.Core.Bool.{true}
-use mathlib.Core.List.{List, [], _∷_, _++_}
-use lib.IntN.{ℤ, pos, negsuc}
+use mathlib.Core.Bool.{true, false}
+use mathlib.Core.List.{[], _∷_, _++_}
+use lib.IntN.{pos, negsuc}
 use lib.Count.{leadingZeros}
-use lib.ListN.{replicate, getD}
 use Rattle.integers.specs.Summation.{sum, total}
 use Rattle.definitions.specs.Words.{tabFrom, part}
 use Rattle.definitions.specs.Logarithm.{logarithm, halfTicks, bitsOf, highestBit, startFrom, nextBit, nextY}
 use Rattle.definitions.specs.Weight.{weight}
-use Rattle.definitions.specs.Layout.{Bytes, bigEndian, unsigned, twosComplement, rowStart}
+use Rattle.definitions.specs.Layout.{bigEndian, unsigned, twosComplement, rowStart}
 use Rattle.definitions.specs.Refusals.{refuses, fields, check1, check2, check3, check4, check5, check6, check7, check8, check9, check10, fileCheck}
 use Rattle.definitions.specs.Refusals.{accepted}
-use Rattle.definitions.specs.Observations.{Chain, chainOf, ratioVariance, paidStep, incurredStep, lastRatio}
-use Rattle.definitions.specs.Matrix.{Φ, Ψ, Figures, figuresFrom, figuresOf, partOf, own, matrix, rightHand, residue, passed, fails, judgement, judgeFrom}
+use Rattle.definitions.specs.Observations.{ratioVariance, paidStep, incurredStep, lastRatio}
+use Rattle.definitions.specs.Matrix.{Φ, Ψ, figuresFrom, figuresOf, partOf, own, matrix, rightHand, residue, passed, fails, judgement, judgeFrom}
+use Rattle.definitions.specs.Strikes.{step, isStep, leftBeside, strikeCheck, unstruck, figuresLeft}
 use Rattle.definitions.specs.Text.{ascii, decimalFrom, signedDecimal, aligned, nameOf, indexOf, lines}
 use Rattle.definitions.specs.Page.{pageLine, pageOf}
-use Rattle.definitions.specs.Ultimate.{Latest, latestOf, Ultimate, paidVariance, incurredVariance, paidUltimate, incurredUltimate, ultimateOf}
-use Rattle.definitions.specs.Machine.{Answer, refused, written, ultimate-is, State, empty, holds, mapState, Outcome, theFile}
-use Rattle.definitions.specs.Machine.{openCall, sweepCall, writeCall, pageCall, ultimateCall}
-use Rattle.definitions.specs.Kept.{observedOf}
+use Rattle.definitions.specs.Ultimate.{paidVariance, incurredVariance, paidUltimate, incurredUltimate, ultimateOf}
+use Rattle.definitions.specs.Machine.{open-file, close, refused, written, ultimate-is, struck-out, empty, holds, theFile, machine}
+use Rattle.definitions.specs.Machine.{openCall, sweepCall, writeCall, ultimateCall, strikeCall, outcome}
+use Rattle.definitions.specs.Kept.{observedOf, paidStepIn, marksOf, marked, keptOf, withStruck}
 use Rattle.definitions.specs.Programs.{partLine, sweepText, openText, programText, listed, listing, boardPage}
-
--- ---- File F, byte by byte, with closeness e: J = 1, σ² and τ² all 2^30, prior variances 2^46, prior means 10T, T, −T
-
-abbrev 2^30-in-8 : Bytes
-2^30-in-8 = 0 ∷ 0 ∷ 0 ∷ 0 ∷ 64 ∷ 0 ∷ 0 ∷ 0 ∷ []
-
-abbrev 2^46-in-8 : Bytes
-2^46-in-8 = 0 ∷ 0 ∷ 64 ∷ 0 ∷ 0 ∷ 0 ∷ 0 ∷ 0 ∷ []
-
-abbrev 0-in-8 : Bytes
-0-in-8 = 0 ∷ 0 ∷ 0 ∷ 0 ∷ 0 ∷ 0 ∷ 0 ∷ 0 ∷ []
-
-abbrev 1-in-8 : Bytes
-1-in-8 = 0 ∷ 0 ∷ 0 ∷ 0 ∷ 0 ∷ 0 ∷ 0 ∷ 1 ∷ []
-
--- one below 2^18, and one above 2^46
-abbrev below-2^18-in-8 : Bytes
-below-2^18-in-8 = 0 ∷ 0 ∷ 0 ∷ 0 ∷ 0 ∷ 3 ∷ 255 ∷ 255 ∷ []
-
-abbrev above-2^46-in-8 : Bytes
-above-2^46-in-8 = 0 ∷ 0 ∷ 64 ∷ 0 ∷ 0 ∷ 0 ∷ 0 ∷ 1 ∷ []
-
--- 2^44, and one above it
-abbrev 2^44-in-8 : Bytes
-2^44-in-8 = 0 ∷ 0 ∷ 16 ∷ 0 ∷ 0 ∷ 0 ∷ 0 ∷ 0 ∷ []
-
-abbrev above-2^44-in-8 : Bytes
-above-2^44-in-8 = 0 ∷ 0 ∷ 16 ∷ 0 ∷ 0 ∷ 0 ∷ 0 ∷ 1 ∷ []
-
--- 256·b, for the amounts
-abbrev amount-in-8 : ℕ → Bytes
-amount-in-8 b = 0 ∷ 0 ∷ 0 ∷ 0 ∷ 0 ∷ 0 ∷ b ∷ 0 ∷ []
-
--- all that stands before the amounts; the first prior mean and the prior variances are left open
-abbrev before : ℕ → (m₀ v₀ v₁ v₂ : Bytes) → Bytes
-before e m₀ v₀ v₁ v₂ =
-    (0 ∷ 0 ∷ 0 ∷ 118 ∷ 1 ∷ 1 ∷ 0 ∷ 0 ∷ 0 ∷ e ∷ [])
-    ++ 2^30-in-8 ++ 2^30-in-8 ++ 2^30-in-8
-    ++ m₀ ++ v₀
-    ++ (0 ∷ 16 ∷ 0 ∷ 0 ∷ []) ++ v₁
-    ++ (255 ∷ 240 ∷ 0 ∷ 0 ∷ []) ++ v₂
-
--- paid 2^10, 2^11 / 2^10; incurred 2^12, 2^11 / 2^12
-abbrev fileOf : ℕ → (m₀ v₀ v₁ v₂ : Bytes) → Bytes
-fileOf e m₀ v₀ v₁ v₂ =
-    before e m₀ v₀ v₁ v₂
-    ++ amount-in-8 4 ++ amount-in-8 8 ++ amount-in-8 4
-    ++ amount-in-8 16 ++ amount-in-8 8 ++ amount-in-8 16
-
-abbrev 10T-in-4 : Bytes
-10T-in-4 = 0 ∷ 160 ∷ 0 ∷ 0 ∷ []
-
-abbrev pub fileF : ℕ → Bytes
-fileF e = fileOf e 10T-in-4 2^46-in-8 2^46-in-8 2^46-in-8
-
--- F without priors
-abbrev flatF : Bytes
-flatF = fileOf 1 10T-in-4 0-in-8 0-in-8 0-in-8
-
--- the same with the first prior mean at 2^26 + b
-abbrev flatFrom : ℕ → Bytes
-flatFrom b = fileOf 1 (4 ∷ 0 ∷ 0 ∷ b ∷ []) 0-in-8 0-in-8 0-in-8
-
--- F with other amounts, paid p₀, e / p₁ and incurred i₀, e / i₁: year 0 ends with the same one
-abbrev amountsF : (p₀ e p₁ i₀ i₁ : Bytes) → Bytes
-amountsF p₀ e p₁ i₀ i₁ = before 1 10T-in-4 2^46-in-8 2^46-in-8 2^46-in-8 ++ p₀ ++ e ++ p₁ ++ i₀ ++ e ++ i₁
-
--- what is held once it is open, its figures in the place of the file
-abbrev openedFrom : ℕ → State Figures
-openedFrom b = mapState figuresOf (openCall theFile empty (flatFrom b) .state)
-
-abbrev F : Figures
-F = figuresOf (fileF 1)
-
-abbrev weights : Chain
-weights = chainOf (fileF 1)
-
--- (10T + a, T + b, −T)
-abbrev mean : ℕ → ℕ → List ℤ
-mean a b = pos (10485760 + a) ∷ pos (1048576 + b) ∷ negsuc 1048575 ∷ []
-
-abbrev residues : List ℤ → List ℤ
-residues μ = tabFrom 0 3 (residue F (part μ))
-
--- the call `page`, lent so many bytes
-abbrev pageOfF : State Figures → ℕ → Outcome Figures
-pageOfF st size = pageCall (λ G. G) st (replicate size 165)
-
-abbrev ticks : ℤ → ℕ → ℕ → Ultimate
-ticks floor remainder divisor = record { floor = floor; remainder = remainder; divisor = divisor }
-
--- the call `ultimate`
-abbrev ultimateOfF : State Bytes → ℕ → Answer
-ultimateOfF = ultimateCall figuresOf latestOf
-
--- J = 2, every number another: the latest logarithms of years 1 and 2, and the variances
-abbrev smallLatest : Latest
-smallLatest = record {
-  logPaid = part (pos 1000 ∷ pos 11 ∷ pos 17 ∷ []);
-  logIncurred = part (pos 2000 ∷ pos 13 ∷ pos 19 ∷ []);
-  varianceΦ = λ m. getD (1 ∷ 2 ∷ 3 ∷ []) m 0;
-  varianceΨ = λ n. getD (5 ∷ 7 ∷ []) n 0;
-}
-
--- Φ_0, Φ_1, Φ_2, Ψ_0, Ψ_1
-abbrev smallMean : List ℤ
-smallMean = pos 100 ∷ pos 20 ∷ negsuc 29 ∷ pos 4 ∷ negsuc 49 ∷ []
-
-abbrev five : Bytes → Bytes
-five b = b ++ b ++ b ++ b ++ b
-
--- a file with J = 2 and e = 256: σ² and τ² all 2^30, no priors, every amount 1
-abbrev threeYears : Bytes
-threeYears =
-    (0 ∷ 0 ∷ 0 ∷ 206 ∷ 1 ∷ 2 ∷ 0 ∷ 0 ∷ 1 ∷ 0 ∷ [])
-    ++ five 2^30-in-8
-    ++ five ((0 ∷ 0 ∷ 0 ∷ 0 ∷ []) ++ 0-in-8)
-    ++ five 1-in-8 ++ five 1-in-8 ++ 1-in-8 ++ 1-in-8
-
-abbrev ultimateOfThree : ℕ → Answer
-ultimateOfThree = ultimateOfF (holds threeYears (pos 0 ∷ pos 1 ∷ pos 2 ∷ pos 3 ∷ pos 4 ∷ []) 0)
+use Rattle.definitions.specs.Examples.{1-in-8, 0-in-8, below-2^18-in-8, above-2^46-in-8, 2^46-in-8, 2^44-in-8, above-2^44-in-8, 10T-in-4}
+use Rattle.definitions.specs.Examples.{fileOf, fileF, flatF, flatFrom, amountsF, openedFrom, F, weights, mean, residues, pageOfF, ticks}
+use Rattle.definitions.specs.Examples.{ultimateOfF, smallLatest, smallMean, ultimateOfThree, struckF, apartF, ownOfThree, strikeOf}
 
 pub record JointTable : Type 0 where
   pub log-of-1 : logarithm 1 ≡ 0
@@ -261,6 +143,44 @@ pub record JointTable : Type 0 where
       ultimateOfThree 1 ∷ ultimateOfThree 2 ∷ []
       ≡ ultimate-is (ticks (pos 3) 0 2147483648) ∷ ultimate-is (ticks (pos 5) 0 4294967296) ∷ []
   pub three-refusals : ultimateOfThree 0 ∷ ultimateOfThree 3 ∷ [] ≡ refused 25 0 ∷ refused 25 0 ∷ []
+  -- document 02, F without x_(0,0)
+  pub struck-own : figuresLeft struckF .own ≡ 65537 ∷ 65537 ∷ 65537 ∷ []
+  pub struck-matrix :
+      figuresLeft struckF .matrix
+      ≡ (pos 65537 ∷ pos 0 ∷ pos 0 ∷ [])
+      ∷ (pos 0 ∷ pos 98305 ∷ negsuc 32767 ∷ [])
+      ∷ (pos 0 ∷ negsuc 32767 ∷ pos 98305 ∷ [])
+      ∷ []
+  -- 655,370T, 131,073T, −131,073T
+  pub struck-right-hand : figuresLeft struckF .rightHand ≡ pos 687205253120 ∷ pos 137440002048 ∷ negsuc 137440002047 ∷ []
+  -- 10T + 65,536·44T without x_(0,0) = 0, and 10T without x_(1,0) = 44T
+  pub struck-first : part (figuresLeft (apartF (step 0 0 0)) .rightHand) 0 ≡ pos 3023667462144
+  pub struck-second : part (figuresLeft (apartF (step 0 1 0)) .rightHand) 0 ≡ pos 10485760
+  -- with J = 2 one more of the paid steps and two of the incurred ones
+  pub three-own : ownOfThree [] ≡ 196608 ∷ 131072 ∷ 65536 ∷ 131072 ∷ 65536 ∷ []
+  pub three-paid-struck : ownOfThree (step 0 1 1 ∷ step 0 2 0 ∷ []) ≡ 131072 ∷ 65536 ∷ 65536 ∷ 131072 ∷ 65536 ∷ []
+  pub three-incurred-struck : ownOfThree (step 1 1 0 ∷ []) ≡ 196608 ∷ 131072 ∷ 65536 ∷ 65536 ∷ 65536 ∷ []
+  -- 21, 14, 26, 27: in this order, and 26 and 27 at the ends of both triangles
+  pub strike-closed : strikeCall theFile empty (step 2 9 9) .answer ≡ refused 21 0
+  pub strike-channel : strikeOf (unstruck (fileF 1)) (step 2 9 9) .answer ≡ refused 14 0
+  pub strike-behind : strikeOf (unstruck (fileF 1)) (step 0 2 0) .answer ∷ strikeOf (unstruck (fileF 1)) (step 0 1 1) .answer ∷ []
+      ≡ refused 26 0 ∷ refused 26 0 ∷ []
+  pub strike-behind-incurred : strikeOf (unstruck (fileF 1)) (step 1 1 0) .answer ∷ strikeOf (unstruck (fileF 1)) (step 1 0 1) .answer ∷ []
+      ≡ refused 26 0 ∷ refused 26 0 ∷ []
+  pub strike-alone : strikeOf (unstruck (fileF 1)) (step 0 0 1) .answer ∷ strikeOf (unstruck (fileF 1)) (step 1 0 0) .answer ∷ []
+      ≡ refused 27 0 ∷ refused 27 0 ∷ []
+  pub strike-again : strikeOf struckF (step 0 0 0) .answer ≡ refused 26 0
+  pub strike-last : strikeOf struckF (step 0 1 0) .answer ≡ refused 27 0
+  -- the mean goes back to the prior means and the total to 0; a refusal leaves both
+  pub strike-done : strikeOf (unstruck (fileF 1)) (step 0 0 0)
+      ≡ record { answer = struck-out; state = holds struckF (mean 0 0) 0; buffer = [] }
+  pub strike-refused : strikeOf struckF (step 0 1 0) .state ≡ holds struckF (mean 2 0) 7
+  -- close forgets what is struck
+  pub struck-forgotten : machine (machine (holds struckF (mean 2 0) 7) close .state) (open-file (fileF 1)) .state
+      ≡ holds (unstruck (fileF 1)) (mean 0 0) 0
+  -- what a session keeps then
+  pub struck-kept : withStruck (step 0 0 0) (keptOf (unstruck (fileF 1))) ≡ keptOf struckF
+  pub struck-marks : keptOf struckF .struck ≡ (true ∷ false ∷ []) ∷ (false ∷ []) ∷ (false ∷ []) ∷ []
 
 pub jointTable : JointTable
 unfolding leadingZeros sum total tabFrom logarithm halfTicks bitsOf highestBit startFrom nextBit nextY weight bigEndian unsigned
@@ -268,6 +188,7 @@ unfolding leadingZeros sum total tabFrom logarithm halfTicks bitsOf highestBit s
     ratioVariance paidStep incurredStep lastRatio figuresFrom partOf own matrix rightHand residue judgeFrom
     ascii decimalFrom signedDecimal aligned nameOf indexOf lines pageLine partLine openCall sweepCall writeCall
     sweepText openText programText listed paidVariance incurredVariance paidUltimate incurredUltimate ultimateOf ultimateCall
+    isStep leftBeside strikeCheck strikeCall outcome paidStepIn marksOf marked
 jointTable = record {
   log-of-1 = refl;
   log-of-2^40 = refl;
@@ -331,4 +252,24 @@ jointTable = record {
   small-ultimate-2 = refl;
   three-ultimates = refl;
   three-refusals = refl;
+  struck-own = refl;
+  struck-matrix = refl;
+  struck-right-hand = refl;
+  struck-first = refl;
+  struck-second = refl;
+  three-own = refl;
+  three-paid-struck = refl;
+  three-incurred-struck = refl;
+  strike-closed = refl;
+  strike-channel = refl;
+  strike-behind = refl;
+  strike-behind-incurred = refl;
+  strike-alone = refl;
+  strike-again = refl;
+  strike-last = refl;
+  strike-done = refl;
+  strike-refused = refl;
+  struck-forgotten = refl;
+  struck-kept = refl;
+  struck-marks = refl;
 }

@@ -8,6 +8,7 @@
 --   Observations   weights p, q, s, t, g and observations x, z, y of a file
 --   Loss           the loss of u/m times m²
 --   Matrix         own weight, precision matrix, right-hand side, residue; passed or the first failing part
+--   Strikes        struck steps: what is left of a file without them
 --   Sweep          one step, one sweep, the sweeps of a call
 --   Text           numbers in base ten, aligned; the names of the parts
 --   Page           the page of a mean and its own weights
@@ -16,6 +17,7 @@
 --   Kept           what a session keeps of a file in the file's place
 --   Programs       what the programs print: the listing, and the page of a settled mean
 --   Guarantee      demand 3: what a passed mean is worth, and which means must pass
+--   Examples       the files, means and calls of the joint table
 --   JointTable     the starred figures, with the page and the listing of F, as one theorem
 -- The words that the definitions are written in: ℕ and its operations, in which a difference stops at 0 and n / 0 is 0; lists
 -- (`lib.ListN`); ℤ (`lib.IntN`); tests (`leb`, `ltb`, `eqb` of `lib.Dec`); `sum n f`, which is f 0 + … + f (n − 1) over ℤ, and
@@ -30,6 +32,7 @@ pub mod Refusals
 pub mod Observations
 pub mod Loss
 pub mod Matrix
+pub mod Strikes
 pub mod Sweep
 pub mod Text
 pub mod Page
@@ -38,4 +41,5 @@ pub mod Machine
 pub mod Kept
 pub mod Programs
 pub mod Guarantee
+pub mod Examples
 pub mod JointTable

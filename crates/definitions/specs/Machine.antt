@@ -1,7 +1,7 @@
 -- Specification, "The calls" and "Refusals", in their orders: for every state and call the answer,
 -- and the state and the lent buffer afterwards. A refused call leaves both as they were.
 use Prim.Native.Nat.{ℕ}
-use mathlib.Core.Bool.{not, cond}
+use mathlib.Core.Bool.{Bool, not, cond}
 use mathlib.Core.List.{List, [], _∷_, _++_}
 use lib.IntN.{ℤ}
 use lib.ListN.{length, drop}
@@ -9,7 +9,8 @@ use lib.Dec.{leb, ltb}
 use Rattle.definitions.specs.Words.{within, tabFrom, part}
 use Rattle.definitions.specs.Layout.{Bytes, lastYear, parts, priorMean, rowBytes, recordLength, meanOf, recordOf}
 use Rattle.definitions.specs.Refusals.{Check, clear, refuses, fileCheck, rowCheck, recordCheck}
-use Rattle.definitions.specs.Matrix.{Figures, figuresOf, Judgement, judgement, passes}
+use Rattle.definitions.specs.Matrix.{Figures, Judgement, judgement, passes}
+use Rattle.definitions.specs.Strikes.{Step, strikeCheck, StruckFile, isStruck, unstruck, figuresLeft}
 use Rattle.definitions.specs.Sweep.{Swept, sweeps, sweepLimit}
 use Rattle.definitions.specs.Page.{pageOf, pageLength}
 use Rattle.definitions.specs.Ultimate.{Latest, latestOf, Ultimate, ultimateOf}
@@ -23,6 +24,7 @@ pub data Call : Type 0 where
   read : (buffer : Bytes) → Call
   page : (buffer : Bytes) → Call
   ultimate : (year : ℕ) → Call
+  strike : Step → Call
   row : (file : Bytes) (channel year : ℕ) → Call
   row-told : (file : Bytes) (channel year : ℕ) → Call
   close : Call
@@ -35,6 +37,7 @@ pub data Answer : Type 0 where
   going : (total : ℕ) → Answer
   written : Answer
   ultimate-is : Ultimate → Answer
+  struck-out : Answer
   part-shown : Bytes → Answer
   row-is-shown : Answer
   closed : Answer
@@ -53,12 +56,16 @@ abbrev pub mapState : {X Y : Type 0} → (X → Y) → State X → State Y
 mapState φ empty = empty
 mapState φ (holds x μ total) = holds (φ x) μ total
 
--- What is kept of a file: how, and what the calls use of it. The specification's machine keeps the file itself; a session keeps arrays.
+-- What is kept of a file: how, and what the calls use of it. The specification's machine keeps the file itself with its struck steps; a
+-- session keeps arrays.
 pub record Keeping (X : Type 0) : Type 0 where
   pub keep : Bytes → X
   pub figures : X → Figures
   pub priorMeans : X → List ℤ
   pub latest : X → Latest
+  pub struck : X → Step → Bool
+  -- the same with one step more struck out
+  pub strikeOut : Step → X → X
 
 -- the buffer is the one that `read` or `page` was lent, and no byte for any other call
 pub record Outcome (X : Type 0) : Type 0 where
@@ -141,6 +148,19 @@ ultimateCall figures latest (holds x μ total) year =
     (cond (not (within 1 (figures x .last) year)) (refused 25 0)
     (ultimate-is (ultimateOf (figures x .last) (latest x) year (part μ))))
 
+-- ---- strike, which changes what is kept
+
+module _ {X : Type 0} (K : Keeping X) where
+  -- the mean goes back to the prior means and the total to 0
+  abbrev pub strikeUnless : Check → Step → X → List ℤ → ℕ → Outcome X
+  strikeUnless clear s x μ total = record { answer = struck-out; state = holds (K .strikeOut s x) (K .priorMeans x) 0; buffer = [] }
+  strikeUnless (refuses number place) s x μ total = answers (holds x μ total) (refused number place)
+
+  -- 21, then 14, 26, 27
+  unfoldable pub strikeCall : State X → Step → Outcome X
+  strikeCall empty s = answers empty (refused 21 0)
+  strikeCall (holds x μ total) s = strikeUnless (strikeCheck (K .figures x .last) (K .struck x) s) s x μ total
+
 -- ---- all calls, over what is kept
 
 module _ {X : Type 0} (K : Keeping X) where
@@ -160,6 +180,7 @@ module _ {X : Type 0} (K : Keeping X) where
   outcome st (read b) = readCall (K .figures) st b
   outcome st (page b) = pageCall (K .figures) st b
   outcome st (ultimate year) = answers st (ultimateCall (K .figures) (K .latest) st year)
+  outcome st (strike s) = strikeCall K st s
   outcome st (row f channel year) = answers st (part-shown (rowPart f channel year))
   outcome st (row-told f channel year) = answers st (refusedOr (rowCheck f channel year) row-is-shown)
   outcome st close = record { answer = closed; state = empty; buffer = [] }
@@ -170,13 +191,15 @@ module _ {X : Type 0} (K : Keeping X) where
   outcomes st (call ∷ calls) = outcome st call ∷ outcomes (outcome st call .state) calls
 
 -- the specification's session machine
-abbrev pub theFile : Keeping Bytes
+abbrev pub theFile : Keeping StruckFile
 theFile = record {
-  keep = λ f. f;
-  figures = figuresOf;
-  priorMeans = λ f. tabFrom 0 (parts (lastYear f)) (priorMean f);
-  latest = latestOf;
+  keep = unstruck;
+  figures = figuresLeft;
+  priorMeans = λ f. tabFrom 0 (parts (lastYear (f .file))) (priorMean (f .file));
+  latest = λ f. latestOf (f .file);
+  struck = isStruck;
+  strikeOut = λ s f. record { file = f .file; struck = s ∷ f .struck };
 }
 
-abbrev pub machine : State Bytes → Call → Outcome Bytes
+abbrev pub machine : State StruckFile → Call → Outcome StruckFile
 machine = outcome theFile

@@ -7,9 +7,10 @@ use lib.IntN.{ℤ}
 use lib.ListN.{length}
 use Rattle.definitions.specs.Words.{part}
 use Rattle.definitions.specs.Layout.{Bytes, parts}
-use Rattle.definitions.specs.Matrix.{Part, partOf, Figures, figuresOf}
+use Rattle.definitions.specs.Matrix.{Part, partOf, Figures}
+use Rattle.definitions.specs.Strikes.{StruckFile, figuresLeft}
 use Rattle.definitions.specs.Text.{ascii, space, lineFeed, decimal, signedDecimal, nameOf, indexOf, lines}
-use Rattle.definitions.specs.Machine.{Answer, refused, opened, judged, settled, going, written, ultimate-is, part-shown, row-is-shown, closed}
+use Rattle.definitions.specs.Machine.{Answer, refused, opened, judged, settled, going, written, ultimate-is, struck-out, part-shown, row-is-shown, closed}
 use Rattle.definitions.specs.Machine.{State, empty, holds, pageIn, theFile, openCall, sweepCall}
 
 -- ---- lines
@@ -41,6 +42,7 @@ printed (settled total) next settles = settles total
 printed (going total) next settles = spentLine total
 printed written next settles = next
 printed (ultimate-is figure) next settles = next
+printed struck-out next settles = next
 printed (part-shown bytes) next settles = next
 printed row-is-shown next settles = next
 printed closed next settles = next
@@ -50,12 +52,12 @@ abbrev pub Show : Type 0
 Show = Figures → List ℤ → ℕ → Bytes
 
 module _ (show : Show) where
-  abbrev pub shown : State Bytes → Bytes
+  abbrev pub shown : State StruckFile → Bytes
   shown empty = []
-  shown (holds f μ total) = show (figuresOf f) μ total
+  shown (holds f μ total) = show (figuresLeft f) μ total
 
-  unfoldable pub sweepText : State Bytes → Bytes
-  sweepText st = let swept = sweepCall figuresOf st 4096 in printed (swept .answer) [] (λ total. shown (swept .state))
+  unfoldable pub sweepText : State StruckFile → Bytes
+  sweepText st = let swept = sweepCall figuresLeft st 4096 in printed (swept .answer) [] (λ total. shown (swept .state))
 
   unfoldable pub openText : Bytes → Bytes
   openText given =

@@ -19,7 +19,7 @@ bringBack z = cond (ltZ (pos partLimit) z) (pos partLimit) (cond (ltZ z (negℤ 
 abbrev pub sweepLimit : ℕ
 sweepLimit = 4096
 
--- the mean that a session holds, and the sweeps run since open
+-- the mean that a session holds, and the sweeps run since open or the last strike
 pub record Swept : Type 0 where
   pub mean : List ℤ
   pub swept : ℕ

@@ -10,6 +10,7 @@ use Rattle.definitions.specs.Words.{part}
 use Rattle.definitions.specs.Layout.{Bytes, lastYear}
 use Rattle.definitions.specs.Refusals.{clear, refuses, rowCheck}
 use Rattle.definitions.specs.Matrix as D
+use Rattle.definitions.specs.Strikes.{Step}
 use Rattle.definitions.specs.Ultimate.{Divided, numerator, bothVariances}
 use Rattle.definitions.specs.Machine.{Answer, refused, State, empty, holds, rowPart}
 use Rattle.laws.specs.Numbers as N
@@ -51,10 +52,14 @@ use Rattle.projecting.specs.declared.UltimateAnswer.{UltimateAnswer}
 use Rattle.projecting.specs.declared.UltimateAnswer.the-variants as U
 use Rattle.projecting.specs.Projects as UltimateCall
 use Rattle.projecting.specs.Projects.{ofProject, latestWith, projectsTo}
+use Rattle.striking.specs.declared.StrikeAnswer.{StrikeAnswer}
+use Rattle.striking.specs.declared.StrikeAnswer.the-variants as K
+use Rattle.striking.specs.Strikes as StrikeCall
+use Rattle.striking.specs.Strikes.{ofStrike}
 use Rattle.telling.specs.declared.System.{System}
 use Rattle.telling.specs.declared.Projected.{Projected}
 use Rattle.telling.specs.Told.{none, told, refusalTold, judgeTold, sweepTold, rowTold, figuresTold, systemTold, ultimateTold}
-use Rattle.desk.specs.Calls.{Numbered, Opens, Judges, Sweeps, Writes, figureOf, Projects, Shows, Closes, ShowsRow}
+use Rattle.desk.specs.Calls.{Numbered, Opens, Strikes, Judges, Sweeps, Writes, figureOf, Projects, Shows, Closes, ShowsRow}
 
 never-0 : {a : Answer} → N.NumberedAnswer a → Numbered a
 never-0 listed place e = subst N.NumberedAnswer e listed
@@ -77,6 +82,22 @@ opens-told s o file a t p h {r} e = record {
         → refusalTold (ofOpen a) .number ≢ 0 → (t ≡ s) × (p ≡ o)
     by-answer O.Opened same some = absurd (some refl)
     by-answer (O.Refused number place) same some = same number place refl
+
+-- ---- strike
+
+pub strikes-told : (d : Step) (s : Held) (o : Observations) (a : StrikeAnswer) (t : Held) (p : Observations)
+    → StrikeCall.Strikes d s o a t p → {r : Refusal} → r ≡ refusalTold (ofStrike a) → Strikes d s o r t p
+strikes-told d s o a t p h {r} e = record {
+  told = e ∙ ap refusalTold (h .answer);
+  numbered = never-0 (N.strike-numbered inSession (sessionState o s) d);
+  state = h .state;
+  same = λ some. by-answer a (h .same) (λ none. some (ap (λ x. x .number) e ∙ none));
+}
+  where
+    by-answer : (a : StrikeAnswer) → ((number place : ℕ) → a ≡ K.Refused number place → (t ≡ s) × (p ≡ o))
+        → refusalTold (ofStrike a) .number ≢ 0 → (t ≡ s) × (p ≡ o)
+    by-answer K.Struck same some = absurd (some refl)
+    by-answer (K.Refused number place) same some = same number place refl
 
 -- ---- judge
 

@@ -10,10 +10,10 @@ use lib.ListN.{length, take, drop}
 use Rattle.definitions.specs.Words.{within, part}
 use Rattle.definitions.specs.Layout.{Bytes, lastYear, closeness, recordLength, meanOf}
 use Rattle.definitions.specs.Refusals.{clear, refuses, rowCheck, recordCheck}
-use Rattle.definitions.specs.Observations.{chainOf}
 use Rattle.definitions.specs.Sweep.{sweepLimit}
 use Rattle.definitions.specs.Page.{pageLength}
 use Rattle.definitions.specs.Matrix.{Figures}
+use Rattle.definitions.specs.Strikes.{Step, step, StruckFile, chainLeft}
 use Rattle.definitions.specs.Ultimate.{Ultimate, Divided, numerator, bothVariances}
 use Rattle.definitions.specs.Machine.{Answer, refused, empty, holds, rowPart, recordIn, pageIn}
 use Rattle.definitions.specs.Guarantee.{Guarantee, Rounded}
@@ -28,6 +28,7 @@ use Rattle.writing.specs.Writes.{Text, writesTo}
 use Rattle.showing.specs.declared.FiguresAnswer.the-variants.{Refused}
 use Rattle.showing.specs.Shows.{showsTo, FiguresOf}
 use Rattle.projecting.specs.Projects.{latestWith, projectsTo}
+use Rattle.striking.specs.Strikes.{strikesTo}
 use Rattle.telling.specs.declared.Refusal.{Refusal}
 use Rattle.telling.specs.declared.Judged.{Judged}
 use Rattle.telling.specs.declared.Swept.{Swept}
@@ -46,30 +47,43 @@ pub record Opens (s : Held) (o : Observations) (file : Bytes) (r : Refusal) (t :
   pub state : sessionState p t ≡ opensTo (sessionState o s) file .state
   pub same : r .number ≢ 0 → (t ≡ s) × (p ≡ o)
 
+pub record Strikes (d : Step) (s : Held) (o : Observations) (r : Refusal) (t : Held) (p : Observations) : Type 0 where
+  pub told : r ≡ refusalTold (strikesTo (sessionState o s) d .answer)
+  pub numbered : Numbered (strikesTo (sessionState o s) d .answer)
+  pub state : sessionState p t ≡ strikesTo (sessionState o s) d .state
+  pub same : r .number ≢ 0 → (t ≡ s) × (p ≡ o)
+
+-- of lent arrays, whatever variances the session keeps beside them
+abbrev pub StrikesLent : ℕ → ℕ → ℕ → Held → List ℤ → List ℕ → List ℕ → Refusal → Held → List ℤ → List ℕ → List ℕ → Type 0
+StrikesLent channel i j s ticks weights struck r t ticks' weights' struck' =
+    (variances : List ℕ) → Strikes (step channel i j) s (observationsAt ticks weights variances struck) r
+    t (observationsAt ticks' weights' variances struck')
+
 pub record Judges (s : Held) (meanRecord : Bytes) (r : Judged) : Type 0 where
   pub told : r ≡ judgeTold (judgesTo (stateOf s) meanRecord)
   pub numbered : Numbered (judgesTo (stateOf s) meanRecord)
-  pub worth : (f : Bytes) (μ : List ℤ) (total : ℕ) → HoldsFile s f μ total
-      → r .passed ≡ 1 → Guarantee (chainOf f) (closeness f) (part (meanOf (lastYear f) meanRecord))
-  pub rounded : (f : Bytes) (μ : List ℤ) (total : ℕ) → HoldsFile s f μ total
-      → recordCheck (lastYear f) meanRecord ≡ clear → Rounded (chainOf f) (closeness f) (part (meanOf (lastYear f) meanRecord))
-      → r .passed ≡ 1
+  pub worth : (f : StruckFile) (μ : List ℤ) (total : ℕ) → HoldsFile s f μ total
+      → r .passed ≡ 1 → Guarantee (chainLeft f) (closeness (f .file)) (part (meanOf (lastYear (f .file)) meanRecord))
+  pub rounded : (f : StruckFile) (μ : List ℤ) (total : ℕ) → HoldsFile s f μ total
+      → recordCheck (lastYear (f .file)) meanRecord ≡ clear
+      → Rounded (chainLeft f) (closeness (f .file)) (part (meanOf (lastYear (f .file)) meanRecord)) → r .passed ≡ 1
 
 pub record Sweeps (s : Held) (n : ℕ) (r : Swept) (t : Held) : Type 0 where
   pub told : r ≡ sweepTold (sweepsTo (stateOf s) n .answer)
   pub numbered : Numbered (sweepsTo (stateOf s) n .answer)
   pub state : stateOf t ≡ sweepsTo (stateOf s) n .state
   pub same : r .refusal .number ≢ 0 → t ≡ s
-  pub worth : (f : Bytes) (μ ν : List ℤ) (total : ℕ) → HoldsFile s f μ total → HoldsFile t f ν (r .total)
-      → r .settled ≡ 1 → Guarantee (chainOf f) (closeness f) (part ν)
-  pub rounded : (f : Bytes) (μ ν : List ℤ) (total after : ℕ) → HoldsFile s f μ total → HoldsFile t f ν after
-      → within 1 sweepLimit n ≡ true → Rounded (chainOf f) (closeness f) (part ν) → r .settled ≡ 1
+  pub worth : (f : StruckFile) (μ ν : List ℤ) (total : ℕ) → HoldsFile s f μ total → HoldsFile t f ν (r .total)
+      → r .settled ≡ 1 → Guarantee (chainLeft f) (closeness (f .file)) (part ν)
+  pub rounded : (f : StruckFile) (μ ν : List ℤ) (total after : ℕ) → HoldsFile s f μ total → HoldsFile t f ν after
+      → within 1 sweepLimit n ≡ true → Rounded (chainLeft f) (closeness (f .file)) (part ν) → r .settled ≡ 1
 
 pub record Writes (size : ℕ → ℕ) (text : Text) (s : Held) (before : Bytes) (r : Refusal) (after : Bytes) : Type 0 where
   pub told : r ≡ refusalTold (writesTo size text (stateOf s) before .answer)
   pub numbered : Numbered (writesTo size text (stateOf s) before .answer)
   pub buffer : after ≡ writesTo size text (stateOf s) before .buffer
-  pub worth : (f : Bytes) (μ : List ℤ) (total : ℕ) → HoldsFile s f μ total → r .number ≡ 0 → Guarantee (chainOf f) (closeness f) (part μ)
+  pub worth : (f : StruckFile) (μ : List ℤ) (total : ℕ) → HoldsFile s f μ total → r .number ≡ 0
+      → Guarantee (chainLeft f) (closeness (f .file)) (part μ)
 
 abbrev pub Reads : Held → Bytes → Refusal → Bytes → Type 0
 Reads = Writes recordLength recordIn
@@ -86,17 +100,17 @@ pub record Projects (o : Observations) (s : Held) (year : ℕ) (r : Projected) :
   pub exact : (F : Figures) (μ : List ℤ) (total : ℕ) → stateOf s ≡ holds F μ total → r .refusal .number ≡ 0
       → Divided (numerator (F .last) (latestWith o F) year (part μ)) (figureOf r)
       × (r .divisor ≡ bothVariances (F .last) (latestWith o F) year)
-  pub worth : (f : Bytes) (μ : List ℤ) (total : ℕ) → HoldsFile s f μ total → r .refusal .number ≡ 0
-      → Guarantee (chainOf f) (closeness f) (part μ)
+  pub worth : (f : StruckFile) (μ : List ℤ) (total : ℕ) → HoldsFile s f μ total → r .refusal .number ≡ 0
+      → Guarantee (chainLeft f) (closeness (f .file)) (part μ)
 
--- of lent arrays, whatever weights the session keeps beside them
+-- of lent arrays, whatever weights and marks the session keeps beside them
 abbrev pub ProjectsLent : List ℤ → List ℕ → Held → ℕ → Projected → Type 0
-ProjectsLent ticks variances s year r = (weights : List ℕ) → Projects (observationsAt ticks weights variances) s year r
+ProjectsLent ticks variances s year r = (weights struck : List ℕ) → Projects (observationsAt ticks weights variances struck) s year r
 
 pub record Shows (s : Held) (r : System) : Type 0 where
   pub told : r ≡ systemTold (showsTo (stateOf s))
   pub numbered : (place : ℕ) → showsTo (stateOf s) .answer ≢ Refused 0 place
-  pub of-file : (f : Bytes) (μ : List ℤ) (total : ℕ) → HoldsFile s f μ total
+  pub of-file : (f : StruckFile) (μ : List ℤ) (total : ℕ) → HoldsFile s f μ total
       → (r .refusal .number ≡ 0) × FiguresOf f (figuresAt (r .last) (r .closeness) (r .own) (r .matrix) (r .«right_hand»))
 
 -- nothing is open, whatever the other arrays hold

@@ -4,3 +4,4 @@ pub mod CallLaws
 pub mod Pinned
 pub mod PinnedSession
 pub mod PinnedUltimate
+pub mod PinnedStrikes

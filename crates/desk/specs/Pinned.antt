@@ -10,8 +10,8 @@ use lib.ListN.{length, getD, take, drop, replicate}
 use Rattle.definitions.specs.Words.{within, part}
 use Rattle.definitions.specs.Layout.{Bytes, lastYear, closeness, meanOf, recordOf}
 use Rattle.definitions.specs.Refusals.{clear, refuses, rowCheck, recordCheck}
-use Rattle.definitions.specs.Observations.{chainOf}
 use Rattle.definitions.specs.Matrix.{passes, Figures, entry, own, matrix, rightHand}
+use Rattle.definitions.specs.Strikes.{StruckFile, chainLeft}
 use Rattle.definitions.specs.Machine.{refused, empty, holds, rowPart, writeCall}
 use Rattle.definitions.specs.Page.{pageOf}
 use Rattle.laws.specs.Tables.{tab-at}
@@ -147,18 +147,18 @@ module _ (s : Held) (r : System) (call : Shows s r) where
     shown-right-hand k below = ap (λ x. part (x .«right_hand») k) e ∙ tab-at 31 (part (F .rightHand)) k (pos 0) below
 
   -- of the file that is open, whatever its J
-  module _ (f : Bytes) (μ : List ℤ) (count : ℕ) (open-file : HoldsFile s f μ count) where
-    pub numbers-of-file : (r .refusal .number ≡ 0) × (r .last ≡ lastYear f) × (r .closeness ≡ closeness f)
+  module _ (f : StruckFile) (μ : List ℤ) (count : ℕ) (open-file : HoldsFile s f μ count) where
+    pub numbers-of-file : (r .refusal .number ≡ 0) × (r .last ≡ lastYear (f .file)) × (r .closeness ≡ closeness (f .file))
     numbers-of-file = let h = call .of-file f μ count open-file in (h .0, h .1 .last, h .1 .close)
 
-    pub own-of-file : (k : ℕ) → k < 2 * lastYear f + 1 → getD (r .own) k 0 ≡ own (chainOf f) k
+    pub own-of-file : (k : ℕ) → k < 2 * lastYear (f .file) + 1 → getD (r .own) k 0 ≡ own (chainLeft f) k
     own-of-file = call .of-file f μ count open-file .1 .own
 
-    pub entry-of-file : (k l : ℕ) → k < 2 * lastYear f + 1 → l < 2 * lastYear f + 1
-        → part (r .matrix) (31 * k + l) ≡ matrix (chainOf f) k l
+    pub entry-of-file : (k l : ℕ) → k < 2 * lastYear (f .file) + 1 → l < 2 * lastYear (f .file) + 1
+        → part (r .matrix) (31 * k + l) ≡ matrix (chainLeft f) k l
     entry-of-file = call .of-file f μ count open-file .1 .matrix
 
-    pub right-hand-of-file : (k : ℕ) → k < 2 * lastYear f + 1 → part (r .«right_hand») k ≡ rightHand (chainOf f) k
+    pub right-hand-of-file : (k : ℕ) → k < 2 * lastYear (f .file) + 1 → part (r .«right_hand») k ≡ rightHand (chainLeft f) k
     right-hand-of-file = call .of-file f μ count open-file .1 .right-hand
 
 module _ (file : Bytes) (channel year : ℕ) (r : RowShown) (call : ShowsRow file channel year r) where
@@ -177,16 +177,16 @@ module _ (file : Bytes) (channel year : ℕ) (r : RowShown) (call : ShowsRow fil
   pub row-numbered : (place : ℕ) → rowCheck file channel year ≢ refuses 0 place
   row-numbered = call .numbered
 
-module _ (f : Bytes) (s : Held) (μ : List ℤ) (count : ℕ) (open-file : HoldsFile s f μ count) where
+module _ (f : StruckFile) (s : Held) (μ : List ℤ) (count : ℕ) (open-file : HoldsFile s f μ count) where
   module _ (mean : Bytes) (r : Judged) (call : Judges s mean r) where
-    pub judge-worth : {e : ℕ} → closeness f ≡ e → r .passed ≡ 1 → Worth f e (part (meanOf (lastYear f) mean))
+    pub judge-worth : {e : ℕ} → closeness (f .file) ≡ e → r .passed ≡ 1 → Worth f e (part (meanOf (lastYear (f .file)) mean))
     judge-worth close passing = worth f close (call .worth f μ count open-file passing)
 
-    pub judge-rounded : recordCheck (lastYear f) mean ≡ clear → Near f (part (meanOf (lastYear f) mean)) → r .passed ≡ 1
+    pub judge-rounded : recordCheck (lastYear (f .file)) mean ≡ clear → Near f (part (meanOf (lastYear (f .file)) mean)) → r .passed ≡ 1
     judge-rounded right h = call .rounded f μ count open-file right (rounded f h)
 
   module _ (n : ℕ) (r : Swept) (t : Held) (call : Sweeps s n r t) (ν : List ℤ) where
-    pub sweep-worth : HoldsFile t f ν (r .total) → {e : ℕ} → closeness f ≡ e → r .settled ≡ 1 → Worth f e (part ν)
+    pub sweep-worth : HoldsFile t f ν (r .total) → {e : ℕ} → closeness (f .file) ≡ e → r .settled ≡ 1 → Worth f e (part ν)
     sweep-worth then close settling = worth f close (call .worth f μ ν count open-file then settling)
 
     pub sweep-rounded : (after : ℕ) → HoldsFile t f ν after → within 1 4096 n ≡ true → Near f (part ν) → r .settled ≡ 1
@@ -194,5 +194,5 @@ module _ (f : Bytes) (s : Held) (μ : List ℤ) (count : ℕ) (open-file : Holds
 
   -- of a record and of a page alike
   pub write-worth : (size : ℕ → ℕ) (text : Text) (buffer after : Bytes) (r : Refusal) → Writes size text s buffer r after
-      → {e : ℕ} → closeness f ≡ e → r .number ≡ 0 → Worth f e (part μ)
+      → {e : ℕ} → closeness (f .file) ≡ e → r .number ≡ 0 → Worth f e (part μ)
   write-worth size text buffer after r call close writing = worth f close (call .worth f μ count open-file writing)

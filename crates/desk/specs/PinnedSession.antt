@@ -1,12 +1,13 @@
 -- C's session as a whole, call by call: whatever stands in its arrays, what a call tells and what it leaves are the outcome of the machine
--- on all that a session keeps, observations included; and that machine's outcomes, over lists of calls, are those of the specification's
--- (`Pinned` of the laws). Each is drawn from the contract of a call alone.
+-- on all that a session keeps, observations and struck steps included; and that machine's outcomes, over lists of calls, are those of the
+-- specification's (`Pinned` of the laws). Each is drawn from the contract of a call alone.
 use Prim.Native.Nat.{ℕ}
 use mathlib.Core.Path.{_≡_, sym, ap, _∙_}
 use mathlib.Core.List.{List}
 use lib.IntN.{ℤ}
 use Rattle.definitions.specs.Layout.{Bytes}
-use Rattle.definitions.specs.Machine.{open-file, judge, sweep, read, page, ultimate, close, State, mapState, Outcome, outcome}
+use Rattle.definitions.specs.Strikes.{Step}
+use Rattle.definitions.specs.Machine.{open-file, judge, sweep, read, page, ultimate, strike, close, State, mapState, Outcome, outcome}
 use Rattle.definitions.specs.Kept.{Kept, inSession}
 use Rattle.observations.specs.declared.Observations.{Observations}
 use Rattle.holding.specs.State.{Held, heldIn, keptWith, sessionState}
@@ -16,7 +17,7 @@ use Rattle.telling.specs.declared.Judged.{Judged}
 use Rattle.telling.specs.declared.Swept.{Swept}
 use Rattle.telling.specs.declared.Projected.{Projected}
 use Rattle.telling.specs.Told.{refusalTold, judgeTold, sweepTold, ultimateTold}
-use Rattle.desk.specs.Calls.{Opens, Judges, Sweeps, Reads, Pages, ProjectsLent, Closes}
+use Rattle.desk.specs.Calls.{Opens, Strikes, Judges, Sweeps, Reads, Pages, ProjectsLent, Closes}
 
 module _ (o : Observations) (s : Held) where
   abbrev st : State Kept
@@ -26,6 +27,11 @@ module _ (o : Observations) (s : Held) where
       → let x : Outcome Kept = outcome inSession st (open-file file) in (r ≡ refusalTold (x .answer)) × (sessionState p t ≡ x .state)
   unfolding outcome
   opens-all p t file r call = (call .told, call .state)
+
+  pub strikes-all : (p : Observations) (t : Held) (d : Step) (r : Refusal) → Strikes d s o r t p
+      → let x : Outcome Kept = outcome inSession st (strike d) in (r ≡ refusalTold (x .answer)) × (sessionState p t ≡ x .state)
+  unfolding outcome
+  strikes-all p t d r call = (call .told, call .state)
 
   pub judges-all : (lent : Bytes) (r : Judged) → Judges s lent r → r ≡ judgeTold (outcome inSession st (judge lent) .answer)
   judges-all lent r call = call .told ∙ ap (λ x. judgeTold (x .answer)) (sym (judge-session o s lent))
@@ -51,10 +57,10 @@ module _ (o : Observations) (s : Held) where
       let whole = sym (page-session o s lent) in
       (call .told ∙ ap (λ x. refusalTold (x .answer)) whole, call .buffer ∙ ap (λ x. x .buffer) whole)
 
-  -- whatever its weights, which it is not lent
+  -- whatever its weights and marks, which it is not lent
   pub projects-all : (year : ℕ) (r : Projected) → ProjectsLent (o .ticks) (o .variances) s year r
       → r ≡ ultimateTold (outcome inSession st (ultimate year) .answer)
-  projects-all year r call = call (o .weights) .told ∙ ap (λ x. ultimateTold (x .answer)) (sym (ultimate-session o s year))
+  projects-all year r call = call (o .weights) (o .struck) .told ∙ ap (λ x. ultimateTold (x .answer)) (sym (ultimate-session o s year))
 
   pub closes-all : (held : List ℕ) → Closes held → (D : List ℕ) (A b μ : List ℤ) (p : Observations)
       → sessionState p (heldIn held D A b μ) ≡ outcome inSession st close .state

@@ -9,9 +9,10 @@ use native.Mathlib.Omega.{arith}
 use borrow.Author.Tests.{le-leb, lt-leb}
 use lib.IntN.{ℤ, pos, _+ℤ_, _*ℤ_}
 use Rattle.definitions.specs.Words.{part}
-use Rattle.definitions.specs.Layout.{Bytes, lastYear, closeness}
+use Rattle.definitions.specs.Layout.{lastYear, closeness}
 use Rattle.definitions.specs.Refusals.{accepted}
-use Rattle.definitions.specs.Matrix.{Figures, figuresFrom, figuresOf, passes}
+use Rattle.definitions.specs.Matrix.{Figures, figuresFrom, passes}
+use Rattle.definitions.specs.Strikes.{StruckFile, figuresLeft}
 use Rattle.definitions.specs.Ultimate as U
 use Rattle.definitions.specs.Ultimate.{numerator, bothVariances, ultimateOf}
 use Rattle.definitions.specs.Machine.{refused, ultimate, empty, holds, theFile, ultimateCall, outcome}
@@ -62,15 +63,15 @@ module _ (o : Observations) (s : Held) (year : ℕ) (r : Projected) (call : Proj
         × (r .divisor ≡ bothVariances (F .last) (latestWith o F) year)
     ultimate-exact done = let h = call .exact F μ count some done in (h .0 .whole, h .0 .below, h .1)
 
-  pub ultimate-worth : (f : Bytes) (μ : List ℤ) (count : ℕ) → HoldsFile s f μ count → {e : ℕ} → closeness f ≡ e
+  pub ultimate-worth : (f : StruckFile) (μ : List ℤ) (count : ℕ) → HoldsFile s f μ count → {e : ℕ} → closeness (f .file) ≡ e
       → r .refusal .number ≡ 0 → Worth f e (part μ)
   ultimate-worth f μ count open-file close done = worth f close (call .worth f μ count open-file done)
 
-  -- of a session that keeps a file whose mean passes
-  module _ (f : Bytes) (μ : List ℤ) (count : ℕ) (kept : sessionState o s ≡ holds (keptOf f) μ count)
-      (p : passes (figuresOf f) (part μ) ≡ true) (from : 1 ≤ year) (to : year ≤ lastYear f) where
+  -- of a session that keeps a file whose mean passes, whatever steps are struck: its logarithms and variances stay
+  module _ (f : StruckFile) (μ : List ℤ) (count : ℕ) (kept : sessionState o s ≡ holds (keptOf f) μ count)
+      (p : passes (figuresLeft f) (part μ) ≡ true) (from : 1 ≤ year) (to : year ≤ lastYear (f .file)) where
     abbrev found : U.Ultimate
-    found = ultimateOf (lastYear f) (U.latestOf f) year (part μ)
+    found = ultimateOf (lastYear (f .file)) (U.latestOf (f .file)) year (part μ)
 
     answer : r ≡ record { refusal = none; floor = found .floor; remainder = found .remainder; divisor = found .divisor }
     unfolding outcome ultimateCall figuresFrom
@@ -79,11 +80,11 @@ module _ (o : Observations) (s : Held) (year : ℕ) (r : Projected) (call : Proj
         ∙ ap (λ x. ultimateTold (x .answer)) (sym (ultimate-session o s year))
         ∙ ap (λ st. ultimateTold (outcome inSession st (ultimate year) .answer)) kept
         ∙ ap (λ x. ultimateTold (x .answer)) (outcome-alike theFile inSession keptOf session-alike (holds f μ count) (ultimate year))
-        ∙ rw (p, le-leb 1 year from, le-leb year (lastYear f) to) refl
+        ∙ rw (p, le-leb 1 year from, le-leb year (lastYear (f .file)) to) refl
 
-    pub ultimate-of-file : accepted f ≡ true
+    pub ultimate-of-file : accepted (f .file) ≡ true
         → (r .refusal ≡ record { number = 0; place = 0 })
-        × (r .floor *ℤ pos (N f year (part μ) + M f year (part μ)) +ℤ pos (r .remainder) ≡ figure f year (part μ))
-        × (r .remainder < N f year (part μ) + M f year (part μ))
-        × (r .divisor ≡ N f year (part μ) + M f year (part μ))
-    ultimate-of-file taken = let h = exact f year (part μ) taken from to in rw answer (refl, h .0, h .1, h .2)
+        × (r .floor *ℤ pos (N (f .file) year (part μ) + M (f .file) year (part μ)) +ℤ pos (r .remainder) ≡ figure (f .file) year (part μ))
+        × (r .remainder < N (f .file) year (part μ) + M (f .file) year (part μ))
+        × (r .divisor ≡ N (f .file) year (part μ) + M (f .file) year (part μ))
+    ultimate-of-file taken = let h = exact (f .file) year (part μ) taken from to in rw answer (refl, h .0, h .1, h .2)

@@ -18,11 +18,13 @@ sizes =
     ∷ (2 * parts yearLimit + yearLimit)
     -- variances by part
     ∷ parts yearLimit
+    -- marks of struck steps, by part and accident year
+    ∷ (parts yearLimit * (yearLimit + 1))
     ∷ []
 
 -- behind the last array there is none
 abbrev pub sizeOf : ℕ → ℕ
 sizeOf array = getD sizes array 0
 
-pub none-behind : (array : ℕ) → 8 ≤ array → sizeOf array ≡ 0
+pub none-behind : (array : ℕ) → 9 ≤ array → sizeOf array ≡ 0
 none-behind array behind = List·getD-eq-default sizes 0 {n = array} behind

@@ -1,7 +1,7 @@
-// What C calls. `held` has J (0 while nothing is open), the closeness and the sweeps run since open.
+// What C calls. `held` has J (0 while nothing is open), the closeness and the sweeps run since open or the last strike.
 ghost use Rattle.observations.specs.Arrays.{observationsAt};
 ghost use Rattle.holding.specs.State.{heldIn};
-ghost use Rattle.desk.specs.Calls.{Opens, Judges, Sweeps, Reads, Pages, ProjectsLent, Shows, Closes, ShowsRow};
+ghost use Rattle.desk.specs.Calls.{Opens, StrikesLent, Judges, Sweeps, Reads, Pages, ProjectsLent, Shows, Closes, ShowsRow};
 use layout::checks::Check;
 use readings::rows::row_place;
 use readings::rows::row_told;
@@ -10,6 +10,7 @@ use session::lent::judge_lent;
 use session::lent::open_lent;
 use session::lent::page_lent;
 use session::lent::read_lent;
+use session::lent::strike_lent;
 use session::lent::sweep_lent;
 use session::lent::ultimate_lent;
 use telling::Judged;
@@ -20,6 +21,7 @@ use telling::Swept;
 use telling::System;
 use telling::judge_told;
 use telling::open_told;
+use telling::strike_told;
 use telling::sweep_told;
 use telling::system_told;
 use telling::ultimate_told;
@@ -36,14 +38,15 @@ pub extern "C" fn desk_open_lent<'a>(
     ticks: &'a mut [i64; 303],
     weights: &'a mut [u64; 77],
     variances: &'a mut [u64; 31],
+    struck: &'a mut [u8; 496],
     file: &'a [u8],
 ) -> Refusal
     ensures { λ r. ⌜ Opens
         (heldIn (now (held .entry)) (now (own .entry)) (now (matrix .entry)) (now («right_hand» .entry)) (now (mean .entry)))
-        (observationsAt (now (ticks .entry)) (now (weights .entry)) (now (variances .entry)))
+        (observationsAt (now (ticks .entry)) (now (weights .entry)) (now (variances .entry)) (now (struck .entry)))
         (now (file .entry)) r
         (heldIn (now (held .exit)) (now (own .exit)) (now (matrix .exit)) (now («right_hand» .exit)) (now (mean .exit)))
-        (observationsAt (now (ticks .exit)) (now (weights .exit)) (now (variances .exit))) ⌝ }
+        (observationsAt (now (ticks .exit)) (now (weights .exit)) (now (variances .exit)) (now (struck .exit))) ⌝ }
 {
     open_told(open_lent(
         held,
@@ -54,6 +57,7 @@ pub extern "C" fn desk_open_lent<'a>(
         ticks,
         weights,
         variances,
+        struck,
         file,
     ))
 }
@@ -196,6 +200,42 @@ pub extern "C" fn desk_ultimate_lent<'a>(
         ticks,
         variances,
         year,
+    ))
+}
+
+// 21, then 14, 26, 27.
+#[no_mangle]
+pub extern "C" fn desk_strike_lent<'a>(
+    held: &'a mut [u64; 3],
+    own: &'a mut [u64; 31],
+    matrix: &'a mut [i64; 961],
+    right_hand: &'a mut [i64; 31],
+    mean: &'a mut [i64; 31],
+    ticks: &'a mut [i64; 303],
+    weights: &'a mut [u64; 77],
+    struck: &'a mut [u8; 496],
+    channel: u64,
+    year: u64,
+    column: u64,
+) -> Refusal
+    ensures { λ r. ⌜ StrikesLent channel year column
+        (heldIn (now (held .entry)) (now (own .entry)) (now (matrix .entry)) (now («right_hand» .entry)) (now (mean .entry)))
+        (now (ticks .entry)) (now (weights .entry)) (now (struck .entry)) r
+        (heldIn (now (held .exit)) (now (own .exit)) (now (matrix .exit)) (now («right_hand» .exit)) (now (mean .exit)))
+        (now (ticks .exit)) (now (weights .exit)) (now (struck .exit)) ⌝ }
+{
+    strike_told(strike_lent(
+        held,
+        own,
+        matrix,
+        right_hand,
+        mean,
+        ticks,
+        weights,
+        struck,
+        channel,
+        year,
+        column,
     ))
 }
 

@@ -1,6 +1,7 @@
 -- The arrays of observations give the specification's own weights, matrix and right-hand side of every chain that they hold.
 use Prim.Native.Nat.{ℕ, zero, suc, _+_, _*_, _-_, _≤_, _<_, min}
 use mathlib.Core.Path.{_≡_, sym, ap, ap₂, subst, _∙_}
+use mathlib.Core.Bool.{cond}
 use mathlib.Core.List.{List}
 use native.Mathlib.Nat.{zero-add}
 use native.Mathlib.Omega.{arith}
@@ -11,18 +12,20 @@ use Rattle.integers.specs.SumRange.{only}
 use Rattle.definitions.specs.Words.{part}
 use Rattle.definitions.specs.Layout.{parts, psiIndex, cells, rowStart}
 use Rattle.definitions.specs.Observations.{Chain}
+use Rattle.definitions.specs.Kept.{stepsOf, paidStepIn}
 use Rattle.definitions.specs.Matrix.{Part, Φ, Ψ, partOf, ownOf, own, matrix, sharedBy, ratiosOfLast, rightHand}
 use Rattle.laws.specs.Columns.{own-of-phi, own-of-psi, firsts-of-phi, firsts-of-psi}
+use Rattle.laws.specs.Marks.{steps-phi, steps-psi}
 use Rattle.laws.specs.Ranks.{rankOf, signOf, partOf-phi, partOf-psi, by-part, rank-below, matrix-by-ranks}
 use Rattle.laws.specs.PrecisionMatrix.{firstsOf, ratios-by-development, target-by-rank}
-use Rattle.observations.specs.Arrays.{at, meanAt, priorAt}
-use Rattle.observations.specs.HoldsChain.{paidStepIn, HoldsChain}
-use Rattle.figures.specs.Weights.{observations, SharesOf, OwnWeights}
-use Rattle.figures.specs.WeightLaws.{observations-phi, observations-psi}
+use Rattle.observations.specs.Arrays.{at, meanAt, priorAt, markAt, unmarked}
+use Rattle.observations.specs.HoldsChain.{HoldsChain}
+use Rattle.observations.specs.Strikes.{LeftIn}
+use Rattle.figures.specs.Weights.{SharesOf, OwnWeights}
 use Rattle.figures.specs.Entries.{entryOf}
-use Rattle.figures.specs.Sums.{stepOf, stepSum, startSum, columnOf, columnSum, ColumnSums, ratioOf, RatioSums, targetFrom}
+use Rattle.figures.specs.Sums.{stepOf, countedAt, stepSum, startSum, columnOf, columnSum, ColumnSums, ratioOf, RatioSums, targetFrom}
 
-module _ (c : Chain) (ticks : List ℤ) (weights : List ℕ) (h : HoldsChain c ticks weights) where
+module _ (c : Chain) (ticks : List ℤ) (weights struck : List ℕ) (h : HoldsChain c ticks weights struck) where
   abbrev J : ℕ
   J = c .last
 
@@ -34,23 +37,26 @@ module _ (c : Chain) (ticks : List ℤ) (weights : List ℕ) (h : HoldsChain c t
 
   -- ---- own weights
 
-  pub own-agrees : {D : List ℕ} → OwnWeights weights J D → (k : ℕ) → k < n → at D k ≡ own c k
+  pub own-agrees : {left D : List ℕ} → LeftIn struck J left → OwnWeights weights left J D → (k : ℕ) → k < n → at D k ≡ own c k
   unfolding own
-  own-agrees {D} o =
+  own-agrees {left} {D} counts o =
       by-part J (λ k. at D k ≡ ownOf c (kind k))
-      (λ j few. own-by j (omega arith) (observations-phi J j few)
-      ∙ sym (own-of-phi c j (at weights j) few (λ i there. h .p i j there) ∙ ap (λ s. s + (J - j + 1) * at weights j) (h .s j few))
+      (λ j few. own-by j (omega arith) (steps-phi J j few)
+      ∙ sym (own-of-phi c j (at weights j) (markAt struck j) few (λ i there. h .p i j there)
+      ∙ ap (λ s. s + unmarked struck j (J - j + 1) * at weights j) (h .s j few))
       ∙ ap (ownOf c) (sym (partOf-phi J j few)))
-      (λ j below. own-by (psiIndex J j) (omega arith) (observations-psi J (psiIndex J j) (omega arith) ∙ left j)
-      ∙ sym (own-of-psi c j (at weights (psiIndex J j)) (λ i there. h .q i j there)
-      ∙ ap (λ t. t + (J - j) * at weights (psiIndex J j)) (h .t j below))
+      (λ j below. let k = psiIndex J j in own-by k (omega arith) (steps-psi J k (omega arith) ∙ back j)
+      ∙ sym (own-of-psi c j (at weights k) (markAt struck k) (λ i there. h .q i j there)
+      ∙ ap (λ t. t + unmarked struck k (J - j) * at weights k) (h .t j below))
       ∙ ap (ownOf c) (sym (partOf-psi J j)))
     where
-      own-by : (k : ℕ) → k < n → {m : ℕ} → observations J k ≡ m → at D k ≡ priorAt weights k + m * at weights k
-      own-by k below e = o .filled .front k below ∙ ap (λ m. priorAt weights k + m * at weights k) e
+      own-by : (k : ℕ) → k < n → {m : ℕ} → stepsOf J k ≡ m → at D k ≡ priorAt weights k + unmarked struck k m * at weights k
+      own-by k below e =
+          o .filled .front k below
+          ∙ ap (λ m. priorAt weights k + m * at weights k) (counts .filled .front k below ∙ ap (unmarked struck k) e)
 
-      left : (j : ℕ) → 2 * J + 1 - (J + 1 + j) ≡ J - j
-      left j = omega arith
+      back : (j : ℕ) → 2 * J + 1 - (J + 1 + j) ≡ J - j
+      back j = omega arith
 
   -- ---- matrix
 
@@ -66,23 +72,28 @@ module _ (c : Chain) (ticks : List ℤ) (weights : List ℕ) (h : HoldsChain c t
       ap₂ (λ d s. only (eqb k l) (pos d) +ℤ signOf (kind k) *ℤ signOf (kind l) *ℤ s) (own-weights k k-below) common
       ∙ sym (matrix-by-ranks c k l k-below l-below)
 
-  -- ---- a part's own observations
+  -- ---- a part's own observations, those that are struck left out
 
-  start-agrees : startSum ticks J ≡ sum (J + 1) (λ i. c .x i 0)
+  counted-as : (k i : ℕ) {y z : ℤ} → y ≡ z → cond (markAt struck k i) (pos 0) y ≡ cond (markAt struck k i) (pos 0) z
+  counted-as k i e = ap (cond (markAt struck k i) (pos 0)) e
+
+  start-agrees : startSum ticks struck J ≡ sum (J + 1) (countedAt struck 0 (λ i. c .x i 0))
   unfolding startSum paidStepIn
-  start-agrees = sum-cong (J + 1) (λ i below. ap (part ticks) (sym (alone (rowStart J i))) ∙ sym (h .x i 0 (omega arith)))
+  start-agrees =
+      sum-cong (J + 1) (λ i below. counted-as 0 i (ap (part ticks) (sym (alone (rowStart J i))) ∙ sym (h .x i 0 (omega arith))))
     where
       alone : (n : ℕ) → n + 0 ≡ n
       alone n = omega arith
 
-  paid-agrees : (j : ℕ) → suc j ≤ J → stepSum ticks J 0 j ≡ sum (J - suc j + 1) (λ i. c .x i (suc j))
+  paid-agrees : (j : ℕ) → suc j ≤ J
+      → stepSum ticks struck J 0 j (suc j) ≡ sum (J - suc j + 1) (countedAt struck (suc j) (λ i. c .x i (suc j)))
   unfolding stepSum paidStepIn
   paid-agrees j few =
-      ap (λ n. sum n (stepOf ticks J 0 j)) (count few)
-      ∙ sum-cong (J - suc j + 1) (λ i below. ap₂ _-ℤ_
+      ap (λ n. sum n (countedAt struck (suc j) (stepOf ticks J 0 j))) (count few)
+      ∙ sum-cong (J - suc j + 1) (λ i below. counted-as (suc j) i (ap₂ _-ℤ_
       (ap (part ticks) (second j (rowStart J i)))
       (ap (part ticks) (zero-add (rowStart J i + j)))
-      ∙ sym (h .x i (suc j) (omega arith)))
+      ∙ sym (h .x i (suc j) (omega arith))))
     where
       count : suc j ≤ J → J - j ≡ J - suc j + 1
       count h = omega arith
@@ -90,12 +101,13 @@ module _ (c : Chain) (ticks : List ℤ) (weights : List ℕ) (h : HoldsChain c t
       second : (j n : ℕ) → 0 + (n + j) + 1 ≡ n + suc j
       second j n = omega arith
 
-  incurred-agrees : (j : ℕ) → stepSum ticks J (cells J) j ≡ sum (J - j) (λ i. c .z i j)
+  incurred-agrees : (j : ℕ)
+      → stepSum ticks struck J (cells J) j (psiIndex J j) ≡ sum (J - j) (countedAt struck (psiIndex J j) (λ i. c .z i j))
   unfolding stepSum
   incurred-agrees j =
-      sum-cong (J - j) (λ i below.
-      ap (λ n. part ticks n -ℤ part ticks (cells J + (rowStart J i + j))) (second (cells J) j (rowStart J i))
-      ∙ sym (h .z i j (omega arith)))
+      sum-cong (J - j) (λ i below. counted-as (psiIndex J j) i
+      (ap (λ n. part ticks n -ℤ part ticks (cells J + (rowStart J i + j))) (second (cells J) j (rowStart J i))
+      ∙ sym (h .z i j (omega arith))))
     where
       second : (m j n : ℕ) → m + (n + j) + 1 ≡ m + (n + (j + 1))
       second m j n = omega arith
@@ -118,26 +130,29 @@ module _ (c : Chain) (ticks : List ℤ) (weights : List ℕ) (h : HoldsChain c t
 
   -- of the part k, which is a
   abbrev firstsFrom : Part → ℕ → ℤ
-  firstsFrom a k = pos (priorAt weights k) *ℤ meanAt ticks k +ℤ pos (at weights k) *ℤ columnOf ticks J a
+  firstsFrom a k = pos (priorAt weights k) *ℤ meanAt ticks k +ℤ pos (at weights k) *ℤ columnOf ticks struck J a
 
   firsts-by : {s : ℕ} {prior : ℤ} (k : ℕ) → s ≡ priorAt weights k → prior ≡ meanAt ticks k → {y z : ℤ} → y ≡ z
       → pos (priorAt weights k) *ℤ meanAt ticks k +ℤ pos (at weights k) *ℤ y ≡ pos s *ℤ prior +ℤ pos (at weights k) *ℤ z
   firsts-by k weight mean e = ap₂ (λ a b. a +ℤ pos (at weights k) *ℤ b) (ap₂ (λ w m. pos w *ℤ m) (sym weight) (sym mean)) e
 
   phi : (j : ℕ) → j ≤ J → firstsFrom (Φ j) j ≡ firstsOf c (Φ j)
-  phi j few = sums j few ∙ sym (firsts-of-phi c j (at weights j) few (λ i there. h .p i j there))
+  phi j few = sums j few ∙ sym (firsts-of-phi c j (at weights j) (markAt struck j) few (λ i there. h .p i j there))
     where
       whole : (n : ℕ) → n ≡ n - 0
       whole n = omega arith
 
-      sums : (j : ℕ) → j ≤ J → firstsFrom (Φ j) j ≡ pos (c .s j) *ℤ c .priorΦ j +ℤ pos (at weights j) *ℤ sum (J - j + 1) (λ i. c .x i j)
-      sums zero few = firsts-by 0 (h .s 0 few) (h .priorΦ 0 few) (start-agrees ∙ ap (λ n. sum (n + 1) (λ i. c .x i 0)) (whole J))
+      sums : (j : ℕ) → j ≤ J → firstsFrom (Φ j) j
+          ≡ pos (c .s j) *ℤ c .priorΦ j +ℤ pos (at weights j) *ℤ sum (J - j + 1) (countedAt struck j (λ i. c .x i j))
+      sums zero few =
+          firsts-by 0 (h .s 0 few) (h .priorΦ 0 few)
+          (start-agrees ∙ ap (λ n. sum (n + 1) (countedAt struck 0 (λ i. c .x i 0))) (whole J))
       sums (suc j) few = firsts-by (suc j) (h .s (suc j) few) (h .priorΦ (suc j) few) (paid-agrees j few)
 
   psi : (j : ℕ) → j < J → firstsFrom (Ψ j) (psiIndex J j) ≡ firstsOf c (Ψ j)
   psi j below =
       firsts-by (psiIndex J j) (h .t j below) (h .priorΨ j below) (incurred-agrees j)
-      ∙ sym (firsts-of-psi c j (at weights (psiIndex J j)) (λ i there. h .q i j there))
+      ∙ sym (firsts-of-psi c j (at weights (psiIndex J j)) (markAt struck (psiIndex J j)) (λ i there. h .q i j there))
 
   firsts-agree : (k : ℕ) → k < n → firstsFrom (kind k) k ≡ firstsOf c (kind k)
   firsts-agree =
@@ -145,7 +160,8 @@ module _ (c : Chain) (ticks : List ℤ) (weights : List ℕ) (h : HoldsChain c t
       (λ j few. subst (λ a. firstsFrom a j ≡ firstsOf c a) (sym (partOf-phi J j few)) (phi j few))
       (λ j below. subst (λ a. firstsFrom a (psiIndex J j) ≡ firstsOf c a) (sym (partOf-psi J j)) (psi j below))
 
-  pub target-agrees : {sums : List ℤ} (ratios : List ℤ) → ColumnSums ticks J sums → ((m : ℕ) → m ≤ J → part ratios m ≡ ratiosOfLast c m)
+  pub target-agrees : {sums : List ℤ} (ratios : List ℤ) → ColumnSums ticks struck J sums
+      → ((m : ℕ) → m ≤ J → part ratios m ≡ ratiosOfLast c m)
       → (k : ℕ) → k < n → targetFrom weights ticks sums ratios J k ≡ rightHand c k
   unfolding targetFrom rightHand columnSum
   target-agrees ratios o shared k below =

@@ -18,23 +18,14 @@ use Rattle.integers.specs.Solver.{ring, _⊠_, ⊖_, num, _≐_}
 use Rattle.definitions.specs.Words.{part}
 use Rattle.definitions.specs.Layout.{parts}
 use Rattle.definitions.specs.Matrix.{Part, Φ, Ψ, partOf}
-use Rattle.laws.specs.Ranks.{rankOf, signOf, rank-below, partOf-phi, partOf-psi}
+use Rattle.laws.specs.Ranks.{rankOf, signOf, rank-below, partOf-phi, part-psi}
 use Rattle.observations.specs.Arrays.{at}
 use Rattle.figures.specs.Entries.{shareOf, entryOf, Stretch, Turned, runOf, ofKind, sharedBy, RowOf, RowsTo}
 
--- ---- the kind of a part
-
-pub part-phi : (J k : ℕ) → k ≤ J → partOf J k ≡ Φ k
-part-phi J k h = partOf-phi J k h
-
-pub part-psi : (J k : ℕ) → J < k → partOf J k ≡ Ψ (k - (J + 1))
-part-psi J k h = ap (partOf J) (sym (behind h)) ∙ partOf-psi J (k - (J + 1))
-  where
-    behind : J < k → J + 1 + (k - (J + 1)) ≡ k
-    behind h = omega arith
+-- ---- the rank of a part
 
 pub rank-phi : (J k : ℕ) → k ≤ J → rankOf (partOf J k) ≡ k
-rank-phi J k h = ap rankOf (part-phi J k h)
+rank-phi J k h = ap rankOf (partOf-phi J k h)
 
 pub rank-psi : (J k : ℕ) → J < k → rankOf (partOf J k) ≡ k - J
 rank-psi J k h = ap rankOf (part-psi J k h) ∙ back h
@@ -73,7 +64,7 @@ module _ {shares turned : List ℤ} {J : ℕ} (t : Turned shares J turned) where
       by-kinds a b (min (rankOf a) (rankOf b)) (omega (arith, rank-below J k h))
 
   pub phi-row : (k : ℕ) → k < parts J → k ≤ J → (l : ℕ) → sharedBy shares turned J k l ≡ shareOf shares J k l
-  phi-row k h phi l = ap (λ a. rowOf a k l) (sym (part-phi J k phi)) ∙ by-row k h l
+  phi-row k h phi l = ap (λ a. rowOf a k l) (sym (partOf-phi J k phi)) ∙ by-row k h l
 
   pub psi-row : (k : ℕ) → k < parts J → J < k → (l : ℕ) → sharedBy turned shares J k l ≡ shareOf shares J k l
   psi-row k h psi l = ap (λ a. rowOf a k l) (sym (part-psi J k psi)) ∙ by-row k h l
@@ -82,7 +73,7 @@ module _ {shares turned : List ℤ} {J : ℕ} (t : Turned shares J turned) where
 module _ (phis psis : List ℤ) (J k rank : ℕ) (e : rank ≡ rankOf (partOf J k)) where
   pub run-phi : (l : ℕ) → l ≤ J → runOf phis rank 0 l ≡ sharedBy phis psis J k l
   unfolding sharedBy
-  run-phi l h = rw (part-phi J l h) (ap₂ (λ r n. part phis (min r n)) e (zero-add l))
+  run-phi l h = rw (partOf-phi J l h) (ap₂ (λ r n. part phis (min r n)) e (zero-add l))
 
   pub run-psi : (l : ℕ) → J < l → runOf psis rank 1 (l - (J + 1)) ≡ sharedBy phis psis J k l
   unfolding sharedBy

@@ -3,7 +3,7 @@
 use Prim.Native.Nat.{ℕ, _*_, _^_, _≤_, _<_}
 use mathlib.Core.Path.{_≡_, sym, subst, _∙_}
 use mathlib.Core.List.{List}
-use native.Mathlib.Nat.{mul-le-mul}
+use native.Mathlib.Nat.{le-trans, mul-le-mul}
 use native.Mathlib.Decide.{decLe}
 use native.Mathlib.Omega.{arith}
 use lib.IntN.{ℤ, pos, natAbs}
@@ -12,14 +12,17 @@ use Rattle.definitions.specs.Words.{part}
 use Rattle.definitions.specs.Layout.{parts, cells}
 use Rattle.definitions.specs.Refusals.{yearLimit}
 use Rattle.definitions.specs.Observations.{Chain}
+use Rattle.definitions.specs.Kept.{stepsOf}
 use Rattle.definitions.specs.Matrix.{own, matrix, rightHand, figuresFrom}
+use Rattle.laws.specs.Marks.{steps-few}
 use Rattle.laws.specs.Diagonal.{matrix-symmetric}
 use Rattle.laws.specs.Tables.{tab-cong}
 use Rattle.observations.specs.Arrays.{at, meanAt, priorAt, ratioAt}
 use Rattle.observations.specs.HoldsChain.{HoldsChain}
+use Rattle.observations.specs.Strikes.{LeftIn}
+use Rattle.observations.specs.StrikeLaws.{unmarked-few}
 use Rattle.chain.specs.Arrays.{figuresAt, figuresOf, cell, cell-at, cell-mirrored}
-use Rattle.figures.specs.Weights.{Shares, SharesOf, OwnWeights}
-use Rattle.figures.specs.WeightLaws.{observations-few}
+use Rattle.figures.specs.Weights.{Shares, SharesOf, Owns, OwnWeights}
 use Rattle.figures.specs.Entries.{OfMatrix, MatrixOf}
 use Rattle.figures.specs.Sums.{Logs, ColumnSums, RatioSums, OfTargets, Targets}
 use Rattle.figures.specs.SumLaws.{columnSum-small, ratioSum-small}
@@ -34,20 +37,23 @@ pub record OfObservations (ticks : List ℤ) (weights : List ℕ) (last : ℕ) :
   pub ratios-small : (d : ℕ) → d < last → ratioAt weights d ≤ 2 ^ 27
 
 -- with whatever closeness
-pub record FiguresOf (ticks : List ℤ) (weights : List ℕ) (last : ℕ) (D : List ℕ) (A b : List ℤ) : Type 0 where
-  pub are : (c : Chain) → c .last ≡ last → HoldsChain c ticks weights → (e : ℕ) → figuresOf (figuresAt last e D A b) ≡ figuresFrom c e
+pub record FiguresOf (ticks : List ℤ) (weights struck : List ℕ) (last : ℕ) (D : List ℕ) (A b : List ℤ) : Type 0 where
+  pub are : (c : Chain) → c .last ≡ last → HoldsChain c ticks weights struck
+      → (e : ℕ) → figuresOf (figuresAt last e D A b) ≡ figuresFrom c e
 
 -- what is made of the arrays
 pub record Made : Type 0 where
+  pub left : List ℕ
   pub own : List ℕ
   pub shared : List ℤ
   pub sums : List ℤ
   pub ratios : List ℤ
 
-pub record MadeOf (ticks : List ℤ) (weights : List ℕ) (last : ℕ) (a : Made) : Type 0 where
-  pub own-are : OwnWeights weights last (a .own)
+pub record MadeOf (ticks : List ℤ) (weights struck : List ℕ) (last : ℕ) (a : Made) : Type 0 where
+  pub left-are : LeftIn struck last (a .left)
+  pub own-are : OwnWeights weights (a .left) last (a .own)
   pub shared-are : SharesOf weights last (a .shared)
-  pub sums-are : ColumnSums ticks last (a .sums)
+  pub sums-are : ColumnSums ticks struck last (a .sums)
   pub ratios-are : RatioSums weights ticks last (a .ratios)
 
 module _ {ticks : List ℤ} {weights : List ℕ} {J : ℕ} (h : OfObservations ticks weights J) where
@@ -56,17 +62,29 @@ module _ {ticks : List ℤ} {weights : List ℕ} {J : ℕ} (h : OfObservations t
   pub asks-shares : Shares weights J
   asks-shares = record { few = h .few; small = λ d below. omega (arith, h .ratios-small d below) }
 
+  left-few : {struck left : List ℕ} → LeftIn struck J left → (k : ℕ) → k < parts J → at left k ≤ 16
+  left-few {struck} counts k below =
+      rw (counts .filled .front k below) (le-trans (unmarked-few struck k (stepsOf J k)) (steps-few J k (h .few)))
+
   logs : Logs ticks J
   logs = record { few = h .few; small = h .logs-small }
 
-  module _ {a : Made} (m : MadeOf ticks weights J a) where
+  pub asks-own : {struck left : List ℕ} → LeftIn struck J left → Owns weights left J
+  asks-own {struck} counts = record {
+    few = h .few;
+    left-few = left-few counts;
+    columns-small = h .columns-small;
+    priors-small = h .priors-small;
+  }
+
+  module _ {struck : List ℕ} {a : Made} (m : MadeOf ticks weights struck J a) where
     pub asks-targets : OfTargets weights ticks (a .sums) (a .ratios) J
     asks-targets = record {
       few = h .few;
       columns-small = h .columns-small;
       priors-small = h .priors-small;
       means-small = h .means-small;
-      sums-small = λ k below. rw (m .sums-are .filled .front k below) (columnSum-small ticks J k logs);
+      sums-small = λ k below. rw (m .sums-are .filled .front k below) (columnSum-small ticks struck J logs k);
       ratios-small = λ r few. rw (m .ratios-are .is r few) (ratioSum-small weights ticks J r logs (h .ratios-small) few);
     }
 
@@ -74,7 +92,7 @@ module _ {ticks : List ℤ} {weights : List ℕ} {J : ℕ} (h : OfObservations t
     asks-matrix = record {
       few = h .few;
       own-small = λ k below.
-          let observed = mul-le-mul (observations-few J k (h .few)) (h .columns-small k below) in
+          let observed = mul-le-mul (left-few (m .left-are) k below) (h .columns-small k below) in
           rw (m .own-are .filled .front k below) (omega (arith, h .priors-small k below));
       shares-small = λ r few.
           let term : ℕ → ℤ = λ d. pos (ratioAt weights d) in
@@ -84,21 +102,22 @@ module _ {ticks : List ℤ} {weights : List ℕ} {J : ℕ} (h : OfObservations t
 
 -- ---- the figures
 
-module _ {ticks : List ℤ} {weights : List ℕ} {a : Made} {targets A : List ℤ} (c : Chain) (h : HoldsChain c ticks weights)
-    (m : MadeOf ticks weights (c .last) a) (t : Targets weights ticks (a .sums) (a .ratios) (c .last) targets)
+module _ {ticks : List ℤ} {weights struck : List ℕ} {a : Made} {targets A : List ℤ} (c : Chain) (h : HoldsChain c ticks weights struck)
+    (m : MadeOf ticks weights struck (c .last) a) (t : Targets weights ticks (a .sums) (a .ratios) (c .last) targets)
     (filled : MatrixOf (a .own) (a .shared) (c .last) A) where
   abbrev J : ℕ
   J = c .last
 
   own-is : (k : ℕ) → k < parts J → at (a .own) k ≡ own c k
-  own-is = own-agrees c ticks weights h (m .own-are)
+  own-is = own-agrees c ticks weights struck h (m .left-are) (m .own-are)
 
   -- an entry on or below the diagonal is the one that is filled, and one above it is that of its mirror
   on-or-below : (k j : ℕ) → k < parts J → j < parts J → j ≤ k → cell A k j ≡ matrix c k j
   on-or-below k j k-below j-below before =
       cell-at A k j before
       ∙ filled .whole .there k k-below j j-below
-      ∙ entry-agrees c ticks weights h (a .own) (a .shared) own-is (shares-agree c ticks weights h (m .shared-are)) k j k-below j-below
+      ∙ entry-agrees c ticks weights struck h (a .own) (a .shared) own-is
+      (shares-agree c ticks weights struck h (m .shared-are)) k j k-below j-below
 
   cell-is : (k j : ℕ) → k < parts J → j < parts J → cell A k j ≡ matrix c k j
   cell-is k j k-below j-below = by-side (decLe j k)
@@ -113,7 +132,7 @@ module _ {ticks : List ℤ} {weights : List ℕ} {a : Made} {targets A : List �
   target-is : (k : ℕ) → k < parts J → part targets k ≡ rightHand c k
   target-is k below =
       t .filled .front k below
-      ∙ target-agrees c ticks weights h (a .ratios) (m .sums-are) (ratios-agree c ticks weights h (m .ratios-are)) k below
+      ∙ target-agrees c ticks weights struck h (a .ratios) (m .sums-are) (ratios-agree c ticks weights struck h (m .ratios-are)) k below
 
   gathered : (e : ℕ) → figuresOf (figuresAt J e (a .own) A targets) ≡ figuresFrom c e
   unfolding figuresOf figuresFrom
@@ -125,13 +144,14 @@ module _ {ticks : List ℤ} {weights : List ℕ} {a : Made} {targets A : List �
     rightHand = tab-cong 0 (parts J) (λ k _ to. target-is k (omega arith)) i;
   }
 
-pub all-gathered : {ticks : List ℤ} {weights : List ℕ} {last : ℕ} {a : Made} {targets A : List ℤ} → MadeOf ticks weights last a
+pub all-gathered : {ticks : List ℤ} {weights struck : List ℕ} {last : ℕ} {a : Made} {targets A : List ℤ}
+    → MadeOf ticks weights struck last a
     → Targets weights ticks (a .sums) (a .ratios) last targets → MatrixOf (a .own) (a .shared) last A
-    → FiguresOf ticks weights last (a .own) A targets
-all-gathered {ticks} {weights} {last} {a} {targets} {A} m t filled = record {
+    → FiguresOf ticks weights struck last (a .own) A targets
+all-gathered {ticks} {weights} {struck} {last} {a} {targets} {A} m t filled = record {
   are = λ c same h e.
       subst (λ J. figuresOf (figuresAt J e (a .own) A targets) ≡ figuresFrom c e) same
-      (gathered c h (subst (λ J. MadeOf ticks weights J a) (sym same) m)
+      (gathered c h (subst (λ J. MadeOf ticks weights struck J a) (sym same) m)
       (subst (λ J. Targets weights ticks (a .sums) (a .ratios) J targets) (sym same) t)
       (subst (λ J. MatrixOf (a .own) (a .shared) J A) (sym same) filled) e);
 }

@@ -1,6 +1,7 @@
 -- What the sums over years go by.
 use Prim.Native.Nat.{ℕ, suc, _+_, _*_, _-_, _^_, _≤_, _<_, zero-le}
-use mathlib.Core.Path.{_≡_, sym, ap, _∙_}
+use mathlib.Core.Path.{_≡_, sym, ap, ap₂, _∙_}
+use mathlib.Core.Bool.{Bool, true, false, cond}
 use mathlib.Core.Logic.{_≢_}
 use mathlib.Core.List.{List, [], _∷_}
 use native.Mathlib.Omega.{arith}
@@ -16,11 +17,10 @@ use Rattle.definitions.specs.Words.{part}
 use Rattle.definitions.specs.Layout.{cells, rowStart}
 use Rattle.definitions.specs.Matrix.{Φ, partOf}
 use Rattle.laws.specs.Cells.{cell-below}
-use Rattle.laws.specs.Ranks.{rankOf, signOf, partOf-phi}
+use Rattle.laws.specs.Ranks.{rankOf, signOf, partOf-phi, part-psi}
 use Rattle.row_starts.specs.Starts.{starts-at}
-use Rattle.observations.specs.Arrays.{at, meanAt, priorAt, ratioAt}
-use Rattle.figures.specs.EntryLaws.{part-psi}
-use Rattle.figures.specs.Sums.{Logs, OfRows, stepOf, stepSum, startSum, columnOf, columnSum, targetFrom, lastCell, ratioOf, ratioSum}
+use Rattle.observations.specs.Arrays.{at, meanAt, priorAt, ratioAt, markAt}
+use Rattle.figures.specs.Sums.{Logs, OfRows, stepOf, countedAt, stepSum, startSum, columnOf, columnSum, targetFrom, lastCell, ratioOf, ratioSum}
 
 -- the start of a row, as it is read
 pub row-at : {logs : List ℤ} {starts : List ℕ} {last : ℕ} → OfRows logs starts last → (i : ℕ) → i ≤ last → at starts i ≡ rowStart last i
@@ -61,23 +61,27 @@ ratioSum-small weights logs J n h small few = omega (arith, h .few, sum-size n t
 
 -- ---- a part's own observations, by its index
 
-module _ (logs : List ℤ) (J k : ℕ) where
-  pub column-start : k ≡ 0 → columnSum logs J k ≡ startSum logs J
+module _ (logs : List ℤ) (struck : List ℕ) (J k : ℕ) where
+  pub column-start : k ≡ 0 → columnSum logs struck J k ≡ startSum logs struck J
   unfolding columnSum
-  column-start e = ap (λ n. columnOf logs J (partOf J n)) e ∙ ap (columnOf logs J) (partOf-phi J 0 zero-le)
+  column-start e = ap (λ n. columnOf logs struck J (partOf J n)) e ∙ ap (columnOf logs struck J) (partOf-phi J 0 zero-le)
 
-  pub column-phi : k ≢ 0 → k ≤ J → columnSum logs J k ≡ stepSum logs J 0 (k - 1)
+  pub column-phi : k ≢ 0 → k ≤ J → columnSum logs struck J k ≡ stepSum logs struck J 0 (k - 1) k
   unfolding columnSum
   column-phi some below =
       let before : k ≡ suc (k - 1) = omega arith in
-      ap (columnOf logs J) (partOf-phi J k below ∙ ap Φ before)
+      ap (columnOf logs struck J) (partOf-phi J k below ∙ ap Φ before) ∙ ap (stepSum logs struck J 0 (k - 1)) (sym before)
 
-  pub column-psi : J < k → columnSum logs J k ≡ stepSum logs J (cells J) (k - J - 1)
+  pub column-psi : J < k → columnSum logs struck J k ≡ stepSum logs struck J (cells J) (k - J - 1) k
   unfolding columnSum
-  column-psi past = ap (columnOf logs J) (part-psi J k past) ∙ ap (stepSum logs J (cells J)) (column past)
+  column-psi past =
+      ap (columnOf logs struck J) (part-psi J k past) ∙ ap₂ (stepSum logs struck J (cells J)) (column past) (back past)
     where
       column : J < k → k - (J + 1) ≡ k - J - 1
       column h = omega arith
+
+      back : J < k → J + 1 + (k - (J + 1)) ≡ k
+      back h = omega arith
 
 -- ---- a step's two cells are in the blocks
 
@@ -93,31 +97,39 @@ step-small logs J block j i h in-blocks below =
 
 -- ---- sizes
 
-stepSum-small : (logs : List ℤ) (J block j : ℕ) → Logs logs J → block ≤ cells J → natAbs (stepSum logs J block j) ≤ 2 ^ 31
-unfolding stepSum
-stepSum-small logs J block j h in-blocks =
-    let each : (i : ℕ) → i < J - j → natAbs (stepOf logs J block j i) ≤ 2 ^ 27 = λ i below. step-small logs J block j i h in-blocks below in
-    omega (arith, h .few, sum-size (J - j) (stepOf logs J block j), total-bound (J - j) (2 ^ 27) each)
-
-startSum-small : (logs : List ℤ) (J : ℕ) → Logs logs J → natAbs (startSum logs J) ≤ 2 ^ 31
-unfolding startSum
-startSum-small logs J h = omega (arith, h .few, sum-size (J + 1) start, total-bound (J + 1) (2 ^ 26) small)
+pub counted-small : (struck : List ℕ) (k : ℕ) (o : ℕ → ℤ) (i : ℕ) {n : ℕ} → natAbs (o i) ≤ n → natAbs (countedAt struck k o i) ≤ n
+counted-small struck k o i {n} small = by-mark (markAt struck k i)
   where
-    start : ℕ → ℤ
-    start i = part logs (rowStart J i)
+    by-mark : (t : Bool) → natAbs (cond t (pos 0) (o i)) ≤ n
+    by-mark true = zero-le
+    by-mark false = small
 
-    small : (i : ℕ) → i < J + 1 → natAbs (start i) ≤ 2 ^ 26
-    small i below = h .small (rowStart J i) (omega (arith, cell-below J i 0 (omega arith)))
+module _ (logs : List ℤ) (struck : List ℕ) (J : ℕ) (h : Logs logs J) where
+  stepSum-small : (block j k : ℕ) → block ≤ cells J → natAbs (stepSum logs struck J block j k) ≤ 2 ^ 31
+  unfolding stepSum
+  stepSum-small block j k in-blocks =
+      let o : ℕ → ℤ = countedAt struck k (stepOf logs J block j) in
+      let each : (i : ℕ) → i < J - j → natAbs (o i) ≤ 2 ^ 27 =
+      λ i below. counted-small struck k (stepOf logs J block j) i (step-small logs J block j i h in-blocks below) in
+      omega (arith, h .few, sum-size (J - j) o, total-bound (J - j) (2 ^ 27) each)
 
-pub columnSum-small : (logs : List ℤ) (J k : ℕ) → Logs logs J → natAbs (columnSum logs J k) ≤ 2 ^ 31
-columnSum-small logs J k h = by-kind (ℕ-discrete k 0) (decLe k J)
-  where
-    by-kind : Dec (k ≡ 0) → Dec (k ≤ J) → natAbs (columnSum logs J k) ≤ 2 ^ 31
-    by-kind (yes none) side = rw (column-start logs J k none) (startSum-small logs J h)
-    by-kind (no some) (yes few) =
-        rw (column-phi logs J k some few) (stepSum-small logs J 0 (k - 1) h zero-le)
-    by-kind (no some) (no above) =
-        rw (column-psi logs J k (lt-of-not-le above)) (stepSum-small logs J (cells J) (k - J - 1) h (le-refl (cells J)))
+  startSum-small : natAbs (startSum logs struck J) ≤ 2 ^ 31
+  unfolding startSum
+  startSum-small =
+      let o : ℕ → ℤ = countedAt struck 0 (λ i. part logs (rowStart J i)) in
+      let small : (i : ℕ) → i < J + 1 → natAbs (o i) ≤ 2 ^ 26 =
+      λ i below. counted-small struck 0 (λ i. part logs (rowStart J i)) i
+      (h .small (rowStart J i) (omega (arith, cell-below J i 0 (omega arith)))) in
+      omega (arith, h .few, sum-size (J + 1) o, total-bound (J + 1) (2 ^ 26) small)
+
+  pub columnSum-small : (k : ℕ) → natAbs (columnSum logs struck J k) ≤ 2 ^ 31
+  columnSum-small k = by-kind (ℕ-discrete k 0) (decLe k J)
+    where
+      by-kind : Dec (k ≡ 0) → Dec (k ≤ J) → natAbs (columnSum logs struck J k) ≤ 2 ^ 31
+      by-kind (yes none) side = rw (column-start logs struck J k none) startSum-small
+      by-kind (no some) (yes few) = rw (column-phi logs struck J k some few) (stepSum-small 0 (k - 1) k zero-le)
+      by-kind (no some) (no above) =
+          rw (column-psi logs struck J k (lt-of-not-le above)) (stepSum-small (cells J) (k - J - 1) k (le-refl (cells J)))
 
 -- ---- the right-hand side of a Φ and of a Ψ
 

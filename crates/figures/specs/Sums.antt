@@ -1,17 +1,18 @@
 -- The contracts of the right-hand side, over the arrays of ticks and weights: cell c of the two blocks has the logarithm c.
 use Prim.Native.Nat.{ℕ, zero, suc, _+_, _*_, _-_, _^_, _≤_, _<_}
 use mathlib.Core.Path.{_≡_}
+use mathlib.Core.Bool.{cond}
 use mathlib.Core.List.{List}
 use lib.IntN.{ℤ, pos, natAbs, _+ℤ_, _-ℤ_, _*ℤ_}
 use Rattle.integers.specs.Sum.{sum}
 use Rattle.definitions.specs.Words.{part}
-use Rattle.definitions.specs.Layout.{parts, cells, rowStart}
+use Rattle.definitions.specs.Layout.{parts, psiIndex, cells, rowStart}
 use Rattle.definitions.specs.Refusals.{yearLimit}
 use Rattle.definitions.specs.Matrix.{Part, Φ, Ψ, partOf}
 use Rattle.laws.specs.Ranks.{rankOf, signOf}
 use Rattle.laws.specs.Filled.{Filled}
 use Rattle.row_starts.specs.Starts.{Starts}
-use Rattle.observations.specs.Arrays.{at, meanAt, priorAt, ratioAt}
+use Rattle.observations.specs.Arrays.{at, meanAt, priorAt, ratioAt, markAt}
 
 -- every logarithm is at most 2^26 in size
 pub record Logs (logs : List ℤ) (last : ℕ) : Type 0 where
@@ -29,31 +30,36 @@ pub record OfRows (logs : List ℤ) (starts : List ℕ) (last : ℕ) : Type 0 wh
 abbrev pub stepOf : List ℤ → ℕ → ℕ → ℕ → ℕ → ℤ
 stepOf logs J block j i = part logs (block + (rowStart J i + j) + 1) -ℤ part logs (block + (rowStart J i + j))
 
-unfoldable pub stepSum : List ℤ → ℕ → ℕ → ℕ → ℤ
-stepSum logs J block j = sum (J - j) (stepOf logs J block j)
+-- what part k's observation of year i counts for
+abbrev pub countedAt : List ℕ → ℕ → (ℕ → ℤ) → ℕ → ℤ
+countedAt struck k o i = cond (markAt struck k i) (pos 0) (o i)
 
-unfoldable pub startSum : List ℤ → ℕ → ℤ
-startSum logs J = sum (J + 1) (λ i. part logs (rowStart J i))
+unfoldable pub stepSum : List ℤ → List ℕ → ℕ → ℕ → ℕ → ℕ → ℤ
+stepSum logs struck J block j k = sum (J - j) (countedAt struck k (stepOf logs J block j))
 
-abbrev pub columnOf : List ℤ → ℕ → Part → ℤ
-columnOf logs J (Φ zero) = startSum logs J
-columnOf logs J (Φ (suc j)) = stepSum logs J 0 j
-columnOf logs J (Ψ j) = stepSum logs J (cells J) j
+unfoldable pub startSum : List ℤ → List ℕ → ℕ → ℤ
+startSum logs struck J = sum (J + 1) (countedAt struck 0 (λ i. part logs (rowStart J i)))
 
-unfoldable pub columnSum : List ℤ → ℕ → ℕ → ℤ
-columnSum logs J k = columnOf logs J (partOf J k)
+abbrev pub columnOf : List ℤ → List ℕ → ℕ → Part → ℤ
+columnOf logs struck J (Φ zero) = startSum logs struck J
+columnOf logs struck J (Φ (suc j)) = stepSum logs struck J 0 j (suc j)
+columnOf logs struck J (Ψ j) = stepSum logs struck J (cells J) j (psiIndex J j)
 
-pub record OfSteps (logs : List ℤ) (starts : List ℕ) (last block column : ℕ) : Type 0 where
+unfoldable pub columnSum : List ℤ → List ℕ → ℕ → ℕ → ℤ
+columnSum logs struck J k = columnOf logs struck J (partOf J k)
+
+pub record OfSteps (logs : List ℤ) (starts : List ℕ) (last block column k : ℕ) : Type 0 where
   pub of-rows : OfRows logs starts last
   pub in-blocks : block ≤ cells last
   pub before-last : column < last
+  pub of-part : k < parts last
 
 pub record OfColumn (logs : List ℤ) (starts : List ℕ) (last k : ℕ) : Type 0 where
   pub of-rows : OfRows logs starts last
   pub below : k < parts last
 
-pub record ColumnSums (logs : List ℤ) (last : ℕ) (r : List ℤ) : Type 0 where
-  pub filled : Filled 31 (parts last) (pos 0) (columnSum logs last) r
+pub record ColumnSums (logs : List ℤ) (struck : List ℕ) (last : ℕ) (r : List ℤ) : Type 0 where
+  pub filled : Filled 31 (parts last) (pos 0) (columnSum logs struck last) r
 
 -- ---- ratios
 

@@ -1,19 +1,16 @@
 -- What the loops over weights go by.
-use Prim.Native.Nat.{ℕ, _+_, _*_, _-_, _≤_, _<_}
+use Prim.Native.Nat.{ℕ, _+_, _≤_, _<_}
 use mathlib.Core.Path.{_≡_, refl, sym, ap, subst, _∙_}
 use mathlib.Core.Logic.{_⊎_, inl, inr}
-use mathlib.Core.Bool.{Bool, true, false, cond}
 use mathlib.Core.List.{List}
 use native.Mathlib.Nat.{eq-or-lt-of-le}
 use native.Mathlib.Omega.{arith}
-use lib.Dec.{leb}
 use lib.IntN.{ℤ, pos}
 use lib.ListN.{set, replicate, length-set}
 use lib.Seq.{getD-set-same, getD-set-other}
-use borrow.Author.Tests.{le-leb, lt-leb}
 use Rattle.integers.specs.Sum.{sum, sum-zero}
 use Rattle.definitions.specs.Words.{part}
-use Rattle.figures.specs.Weights.{observations, Summed}
+use Rattle.figures.specs.Weights.{Summed}
 
 -- ---- sums of the first n numbers, one after another
 
@@ -42,21 +39,3 @@ summed-next {n} {f} {z = z} {sums = sums} h below e = record {
         ∙ e
         ∙ ap (λ m. sum m f) (sym here)
     by-place i (inr earlier) = getD-set-other sums (n + 1) i z (pos 0) (λ same. omega arith) ∙ h .there i (omega arith)
-
--- ---- observations of a part
-
-pub observations-phi : (J k : ℕ) → k ≤ J → observations J k ≡ J - k + 1
-unfolding observations
-observations-phi J k h = rw (le-leb k J h)
-
-pub observations-psi : (J k : ℕ) → J < k → observations J k ≡ 2 * J + 1 - k
-unfolding observations
-observations-psi J k h = rw (lt-leb k J h)
-
-pub observations-few : (J k : ℕ) → J ≤ 15 → observations J k ≤ 31
-unfolding observations
-observations-few J k few = by-side (leb k J)
-  where
-    by-side : (t : Bool) → cond t (J - k + 1) (2 * J + 1 - k) ≤ 31
-    by-side true = omega arith
-    by-side false = omega arith

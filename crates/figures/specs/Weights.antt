@@ -1,9 +1,7 @@
 -- The contracts of own weights and of the sums of g, over the array of weights.
-use Prim.Native.Nat.{ℕ, _+_, _*_, _-_, _^_, _≤_, _<_}
+use Prim.Native.Nat.{ℕ, _+_, _*_, _^_, _≤_, _<_}
 use mathlib.Core.Path.{_≡_}
-use mathlib.Core.Bool.{cond}
 use mathlib.Core.List.{List}
-use lib.Dec.{leb}
 use lib.IntN.{ℤ, pos}
 use lib.ListN.{length}
 use Rattle.integers.specs.Sum.{sum}
@@ -28,16 +26,15 @@ pub record OfPart (last k : ℕ) : Type 0 where
   pub few : last ≤ yearLimit
   pub below : k < parts last
 
-unfoldable pub observations : ℕ → ℕ → ℕ
-observations J k = cond (leb k J) (J - k + 1) (2 * J + 1 - k)
-
-pub record Owns (weights : List ℕ) (last : ℕ) : Type 0 where
+-- of each part at most 16 observations are left
+pub record Owns (weights left : List ℕ) (last : ℕ) : Type 0 where
   pub few : last ≤ yearLimit
+  pub left-few : (k : ℕ) → k < parts last → at left k ≤ 16
   pub columns-small : (k : ℕ) → k < parts last → at weights k ≤ 2 ^ 28
   pub priors-small : (k : ℕ) → k < parts last → priorAt weights k ≤ 2 ^ 28
 
-pub record OwnWeights (weights : List ℕ) (last : ℕ) (r : List ℕ) : Type 0 where
-  pub filled : Filled 31 (parts last) 0 (λ k. priorAt weights k + observations last k * at weights k) r
+pub record OwnWeights (weights left : List ℕ) (last : ℕ) (r : List ℕ) : Type 0 where
+  pub filled : Filled 31 (parts last) 0 (λ k. priorAt weights k + at left k * at weights k) r
 
 -- ---- the loop over ratios
 

@@ -1,5 +1,8 @@
 // The right-hand side, from the logarithms of the amounts, the prior means and the weights.
 ghost use mathlib.Core.Path.{_≡_};
+ghost use mathlib.Core.Bool.{not, cond};
+ghost use lib.Dec.{eqb};
+ghost use lib.IntN.{pos};
 ghost use Rattle.figures.specs.Sums.{
   OfRows,
   OfSteps,
@@ -21,68 +24,104 @@ use observations::PRIOR_MEANS;
 use observations::PRIOR_WEIGHTS;
 use observations::RATIO_WEIGHTS;
 
-// Σ over the accident years of the step from a column of a block to the next: the next cell's logarithm less the cell's.
+// What a step counts for: nothing where it is marked as struck.
+fn counted(mark: u8, step: i64) -> i64
+    ensures { λ r. ⌜ r ≡ cond (not (eqb mark 0)) (pos 0) step ⌝ }
+{
+    if mark == 0 { step } else { 0 }
+}
+
+// Σ over the accident years of the step from a column of a block to the next: the next cell's logarithm less the cell's. They are
+// the observations of part k.
 fn step_sum<'a>(
     ticks: &'a [i64; 303],
     starts: &'a [usize; 16],
+    struck: &'a [u8; 496],
     last: u8,
     block: usize,
     column: usize,
+    k: usize,
 ) -> i64
-    requires { ⌜ OfSteps (now ticks) (now starts) last block column ⌝ }
-    ensures { λ r. ⌜ r ≡ stepSum (now (ticks .entry)) last block column ⌝ }
+    requires { ⌜ OfSteps (now ticks) (now starts) last block column k ⌝ }
+    ensures { λ r. ⌜ r ≡ stepSum (now (ticks .entry)) (now (struck .entry)) last block column k ⌝ }
 {
     let count = last as usize - column;
     let mut total = 0i64;
     let mut i = 0usize;
     while i < count {
         let at = block + (starts[i] + column);
-        total += ticks[at + 1] - ticks[at];
+        let step = ticks[at + 1] - ticks[at];
+        total += counted(struck[16 * k + i], step);
         i += 1;
     }
     total
 }
 
 // Σ of the logarithms of each year's first paid amount.
-fn start_sum<'a>(ticks: &'a [i64; 303], starts: &'a [usize; 16], last: u8) -> i64
+fn start_sum<'a>(
+    ticks: &'a [i64; 303],
+    starts: &'a [usize; 16],
+    struck: &'a [u8; 496],
+    last: u8,
+) -> i64
     requires { ⌜ OfRows (now ticks) (now starts) last ⌝ }
-    ensures { λ r. ⌜ r ≡ startSum (now (ticks .entry)) last ⌝ }
+    ensures { λ r. ⌜ r ≡ startSum (now (ticks .entry)) (now (struck .entry)) last ⌝ }
 {
     let count = last as usize + 1;
     let mut total = 0i64;
     let mut i = 0usize;
     while i < count {
-        total += ticks[starts[i]];
+        let start = ticks[starts[i]];
+        total += counted(struck[i], start);
         i += 1;
     }
     total
 }
 
 // Σ of a part's own observations.
-fn column_sum<'a>(ticks: &'a [i64; 303], starts: &'a [usize; 16], last: u8, k: usize) -> i64
+fn column_sum<'a>(
+    ticks: &'a [i64; 303],
+    starts: &'a [usize; 16],
+    struck: &'a [u8; 496],
+    last: u8,
+    k: usize,
+) -> i64
     requires { ⌜ OfColumn (now ticks) (now starts) last k ⌝ }
-    ensures { λ r. ⌜ r ≡ columnSum (now (ticks .entry)) last k ⌝ }
+    ensures { λ r. ⌜ r ≡ columnSum (now (ticks .entry)) (now (struck .entry)) last k ⌝ }
 {
     if k == 0 {
-        return start_sum(ticks, starts, last);
+        return start_sum(ticks, starts, struck, last);
     }
     let years = last as usize;
     if k <= years {
-        return step_sum(ticks, starts, last, 0, k - 1);
+        return step_sum(ticks, starts, struck, last, 0, k - 1, k);
     }
-    step_sum(ticks, starts, last, cells_of(last), k - years - 1)
+    step_sum(
+        ticks,
+        starts,
+        struck,
+        last,
+        cells_of(last),
+        k - years - 1,
+        k,
+    )
 }
 
 // Those of every part.
-pub fn column_sums<'a>(ticks: &'a [i64; 303], starts: &'a [usize; 16], last: u8) -> [i64; 31]
+pub fn column_sums<'a>(
+    ticks: &'a [i64; 303],
+    starts: &'a [usize; 16],
+    struck: &'a [u8; 496],
+    last: u8,
+) -> [i64; 31]
     requires { ⌜ OfRows (now ticks) (now starts) last ⌝ }
-    ensures { λ r. ⌜ ColumnSums (now (ticks .entry)) last r ⌝ }
+    ensures { λ r. ⌜ ColumnSums (now (ticks .entry)) (now (struck .entry)) last r ⌝ }
 {
     let count = 2 * (last as usize) + 1;
     let mut sums = [0i64; 31];
     let mut k = 0usize;
     while k < count {
-        let sum = column_sum(ticks, starts, last, k);
+        let sum = column_sum(ticks, starts, struck, last, k);
         sums[k] = sum;
         k += 1;
     }

@@ -1,6 +1,5 @@
 // What the matrix is filled from: each part's own weight, and the sums of the weights of the ratios.
-ghost use mathlib.Core.Path.{_≡_};
-ghost use Rattle.figures.specs.Weights.{OfPart, observations, Shares, SharesOf, Owns, OwnWeights};
+ghost use Rattle.figures.specs.Weights.{Shares, SharesOf, Owns, OwnWeights};
 use observations::PRIOR_WEIGHTS;
 use observations::RATIO_WEIGHTS;
 
@@ -21,29 +20,16 @@ pub fn shares(weights: &[u64; 77], last: u8) -> [i64; 16]
     sums
 }
 
-// How many observations a part has of its own.
-fn observations_of(last: u8, k: usize) -> usize
-    requires { ⌜ OfPart last k ⌝ }
-    ensures { λ r. ⌜ r ≡ observations last k ⌝ }
-{
-    let years = last as usize;
-    if k <= years {
-        years - k + 1
-    } else {
-        2 * years + 1 - k
-    }
-}
-
-// The own weights: a part's prior, and its own observations.
-pub fn own_weights(weights: &[u64; 77], last: u8) -> [u64; 31]
-    requires { ⌜ Owns (now weights) last ⌝ }
-    ensures { λ r. ⌜ OwnWeights (now (weights .entry)) last r ⌝ }
+// The own weights: a part's prior, and its own observations, as many as are left.
+pub fn own_weights<'a>(weights: &'a [u64; 77], left: &'a [u64; 31], last: u8) -> [u64; 31]
+    requires { ⌜ Owns (now weights) (now left) last ⌝ }
+    ensures { λ r. ⌜ OwnWeights (now (weights .entry)) (now (left .entry)) last r ⌝ }
 {
     let count = 2 * (last as usize) + 1;
     let mut own = [0u64; 31];
     let mut k = 0usize;
     while k < count {
-        own[k] = weights[PRIOR_WEIGHTS + k] + observations_of(last, k) as u64 * weights[k];
+        own[k] = weights[PRIOR_WEIGHTS + k] + left[k] * weights[k];
         k += 1;
     }
     own

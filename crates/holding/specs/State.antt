@@ -1,28 +1,28 @@
 -- What a session holds, by value or in lent arrays, and the state that it stands for: an open file's figures with a mean and a total, or
--- nothing; and the same with the file's observations beside the figures, which is all that a session keeps.
+-- nothing; and the same with the file's observations and struck steps beside the figures, which is all that a session keeps.
 use Prim.Native.Nat.{ℕ, _≤_}
 use mathlib.Core.Path.{_≡_}
-use mathlib.Core.Bool.{true}
 use mathlib.Core.List.{List}
 use native.Mathlib.Decide.{decLe, map-dec}
 use lib.IntN.{ℤ, pos, natAbs}
 use lib.ListN.{getD}
 use Rattle.definitions.specs.Words.{part}
-use Rattle.definitions.specs.Layout.{Bytes, parts}
-use Rattle.definitions.specs.Refusals.{yearLimit, closenessLimit, partLimit, accepted}
+use Rattle.definitions.specs.Layout.{parts}
+use Rattle.definitions.specs.Refusals.{yearLimit, closenessLimit, partLimit}
 use Rattle.definitions.specs.Matrix.{entry}
 use Rattle.definitions.specs.Matrix as D
+use Rattle.definitions.specs.Strikes.{StruckFile, Admitted, figuresLeft}
 use Rattle.definitions.specs.Sweep.{sweepLimit}
 use Rattle.definitions.specs.Machine.{State, empty, holds, mapState}
 use Rattle.definitions.specs.Kept.{Kept}
 use Rattle.observations.specs.declared.Observations.{Observations}
-use Rattle.observations.specs.Arrays.{observedIn}
+use Rattle.observations.specs.Arrays.{observedIn, struckIn}
 use Rattle.chain.specs.declared.arrays.Figures.{Figures}
 use Rattle.chain.specs.Arrays.{figuresAt, figuresOf, meanOf}
 use Rattle.chain.specs.Fitting.{Fitting, Inside, entryLimit, diagonalLimit, ownLimit, rightHandLimit}
 use Rattle.holding.specs.Decided.{_and_, every, decLeZ}
 
--- figures, a mean and the sweeps run since open: what judge, sweep and read are lent
+-- figures, a mean and the sweeps run since open or the last strike: what judge, sweep and read are lent
 pub record Held : Type 0 where
   pub figures : Figures
   pub mean : List ℤ
@@ -90,13 +90,13 @@ stateOf s = stateBy (decFits s) s
 
 -- as many of them as the figures' J says
 abbrev pub keptWith : Observations → D.Figures → Kept
-keptWith o F = record { figures = F; observed = observedIn (F .last) o }
+keptWith o F = record { figures = F; observed = observedIn (F .last) o; struck = struckIn (F .last) o }
 
 abbrev pub sessionState : Observations → Held → State Kept
 sessionState o s = mapState (keptWith o) (stateOf s)
 
--- ---- an accepted file is open, with a mean and a total
+-- ---- an accepted file is open, with the steps that are struck, a mean and a total
 
-pub record HoldsFile (s : Held) (f : Bytes) (μ : List ℤ) (total : ℕ) : Type 0 where
-  pub file : accepted f ≡ true
-  pub state : stateOf s ≡ holds (D.figuresOf f) μ total
+pub record HoldsFile (s : Held) (f : StruckFile) (μ : List ℤ) (total : ℕ) : Type 0 where
+  pub file : Admitted f
+  pub state : stateOf s ≡ holds (figuresLeft f) μ total

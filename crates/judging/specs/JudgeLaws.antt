@@ -10,6 +10,7 @@ use Rattle.definitions.specs.Layout.{Bytes, lastYear, meanOf}
 use Rattle.definitions.specs.Refusals.{Check, clear, refuses, recordCheck}
 use Rattle.definitions.specs.Matrix as D
 use Rattle.definitions.specs.Matrix.{Judgement, passed, fails, judgement, isPassed, passes}
+use Rattle.definitions.specs.Strikes.{StruckFile, figuresLeft}
 use Rattle.definitions.specs.Machine.{Answer, judged, refused, holds, refusedOr, judgeCall}
 use Rattle.chain.specs.Arrays.{figuresOf}
 use Rattle.holding.specs.State.{Held, Fits, stateOf}
@@ -42,15 +43,15 @@ refused-or clear a j e = e
 refused-or (refuses number place) a j e = absurd (judged-refused (sym e))
 
 -- a file that is open, and the mean of a record
-module _ (f : Bytes) (μ : List ℤ) (total : ℕ) (r : Bytes) where
+module _ (f : StruckFile) (μ : List ℤ) (total : ℕ) (r : Bytes) where
   abbrev judgedTo : Answer
-  judgedTo = judgesTo (holds (D.figuresOf f) μ total) r
+  judgedTo = judgesTo (holds (figuresLeft f) μ total) r
 
-  passed-passes : judgedTo ≡ judged passed → passes (D.figuresOf f) (part (meanOf (lastYear f) r)) ≡ true
+  passed-passes : judgedTo ≡ judged passed → passes (figuresLeft f) (part (meanOf (lastYear (f .file)) r)) ≡ true
   unfolding judgeCall D.figuresFrom
-  passed-passes e = ap isPassed (judged-same (refused-or (recordCheck (lastYear f) r) _ passed e))
+  passed-passes e = ap isPassed (judged-same (refused-or (recordCheck (lastYear (f .file)) r) _ passed e))
 
-  passes-passed : recordCheck (lastYear f) r ≡ clear → passes (D.figuresOf f) (part (meanOf (lastYear f) r)) ≡ true
+  passes-passed : recordCheck (lastYear (f .file)) r ≡ clear → passes (figuresLeft f) (part (meanOf (lastYear (f .file)) r)) ≡ true
       → judgedTo ≡ judged passed
   unfolding judgeCall D.figuresFrom
   passes-passed c e = rw c (ap judged (is-passed _ e))
@@ -61,11 +62,12 @@ module _ (s : Held) (r : Bytes) where
   judges a e = record {
     answer = e;
     worth = λ f μ total open-file passing.
-        worth open-file (meanOf (lastYear f) r)
+        worth open-file (meanOf (lastYear (f .file)) r)
         (passed-passes f μ total r (ap (λ x. judgesTo x r) (sym (open-file .state)) ∙ sym e ∙ ap ofJudge passing));
     rounded = λ f μ total open-file c near.
         of-passed a
-        (e ∙ ap (λ x. judgesTo x r) (open-file .state) ∙ passes-passed f μ total r c (rounded open-file (meanOf (lastYear f) r) near));
+        (e ∙ ap (λ x. judgesTo x r) (open-file .state)
+        ∙ passes-passed f μ total r c (rounded open-file (meanOf (lastYear (f .file)) r) near));
   }
 
   pub judges-closed : ¬ Fits s → Judges s r (Refused 21 0)

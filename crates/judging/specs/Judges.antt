@@ -7,8 +7,8 @@ use lib.IntN.{ℤ}
 use Rattle.definitions.specs.Words.{part}
 use Rattle.definitions.specs.Layout.{Bytes, lastYear, closeness, meanOf}
 use Rattle.definitions.specs.Refusals.{clear, recordCheck}
-use Rattle.definitions.specs.Observations.{chainOf}
 use Rattle.definitions.specs.Matrix.{Figures, passed, fails}
+use Rattle.definitions.specs.Strikes.{StruckFile, chainLeft}
 use Rattle.definitions.specs.Machine as M
 use Rattle.definitions.specs.Machine.{Answer, judged, State, judgeCall}
 use Rattle.definitions.specs.Guarantee.{Guarantee, Rounded}
@@ -29,8 +29,9 @@ judgesTo = judgeCall (λ F. F)
 pub record Judges (s : Held) (meanRecord : Bytes) (r : JudgeAnswer) : Type 0 where
   pub answer : ofJudge r ≡ judgesTo (stateOf s) meanRecord
   -- whoever proposed the mean
-  pub worth : (f : Bytes) (μ : List ℤ) (total : ℕ) → HoldsFile s f μ total
-      → r ≡ Passed → Guarantee (chainOf f) (closeness f) (part (meanOf (lastYear f) meanRecord))
+  pub worth : (f : StruckFile) (μ : List ℤ) (total : ℕ) → HoldsFile s f μ total
+      → r ≡ Passed → Guarantee (chainLeft f) (closeness (f .file)) (part (meanOf (lastYear (f .file)) meanRecord))
   -- a record that is not refused, of a rounded mean
-  pub rounded : (f : Bytes) (μ : List ℤ) (total : ℕ) → HoldsFile s f μ total
-      → recordCheck (lastYear f) meanRecord ≡ clear → Rounded (chainOf f) (closeness f) (part (meanOf (lastYear f) meanRecord)) → r ≡ Passed
+  pub rounded : (f : StruckFile) (μ : List ℤ) (total : ℕ) → HoldsFile s f μ total
+      → recordCheck (lastYear (f .file)) meanRecord ≡ clear
+      → Rounded (chainLeft f) (closeness (f .file)) (part (meanOf (lastYear (f .file)) meanRecord)) → r ≡ Passed

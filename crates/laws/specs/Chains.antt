@@ -54,6 +54,16 @@ pub record Carried (c : Chain) : Type 0 where
   pub z-counts : (j : ℕ) → j < c .last → 1 ≤ c .q (z-year j) j
   pub z-shares : (d j : ℕ) → d ≤ j → j < c .last → c .g d ≤ c .q (z-year j) j
 
+-- Every observation counts; and every one carries its column.
+pub record Counted (c : Chain) : Type 0 where
+  pub x-counts : (i j : ℕ) → i + j ≤ c .last → 1 ≤ c .p i j
+  pub z-counts : (i j : ℕ) → i + j < c .last → 1 ≤ c .q i j
+
+pub record Carries (c : Chain) : Type 0 where
+  pub counted : Counted c
+  pub x-shares : (d i j : ℕ) → d < j → i + j ≤ c .last → c .g d ≤ c .p i j
+  pub z-shares : (d i j : ℕ) → d ≤ j → i + j < c .last → c .g d ≤ c .q i j
+
 -- each part has an own weight, and each g that it shares is at most that
 pub record Owned (c : Chain) : Type 0 where
   pub owned : (k : ℕ) → k < parts (c .last) → 1 ≤ own c k

@@ -1,4 +1,5 @@
--- Demand 3, whole: what a passed mean is worth, for every chain that is carried, and so for every accepted file, whoever proposed the mean.
+-- Demand 3, whole: what a passed mean is worth, for every chain that is carried, and so for every accepted file, whatever steps are struck
+-- while one is left in each column, and whoever proposed the mean.
 use Prim.Native.Nat.{ℕ, _*_, _≤_, _<_}
 use mathlib.Core.Path.{_≡_, sym, _∙_, subst}
 use mathlib.Core.Bool.{true}
@@ -8,12 +9,12 @@ use lib.IntN.{pos, natAbs}
 use Rattle.definitions.specs.Layout.{closeness, parts}
 use Rattle.definitions.specs.Refusals.{yearLimit}
 use Rattle.definitions.specs.Loss.{Vector}
-use Rattle.definitions.specs.Observations.{Chain, chainOf}
+use Rattle.definitions.specs.Observations.{Chain}
 use Rattle.definitions.specs.Matrix.{own, figuresFrom, passes}
+use Rattle.definitions.specs.Strikes.{chainLeft}
 use Rattle.definitions.specs.Guarantee.{Guarantee, RoundingPasses, Demand3, ZeroResidue}
-use Rattle.laws.specs.Accepted.{accepted-file}
 use Rattle.laws.specs.Chains.{Carried, carried-owned}
-use Rattle.laws.specs.FileChain.{file-chain}
+use Rattle.laws.specs.StruckChain.{struck-chain}
 use Rattle.laws.specs.FormGuarantee as Form
 use Rattle.laws.specs.Judged.{SmallResidues, small-of-passes, passes-of-small}
 use Rattle.laws.specs.LossForm.{loss-is-form}
@@ -45,8 +46,6 @@ rounded-passes c e h years μ r =
 
 pub demand3 : Demand3
 demand3 = record {
-  guarantee = λ f yes-file μ. guaranteed (chainOf f) (closeness f) μ (file-chain f (accepted-file f yes-file) .1);
-  rounding = λ f yes-file.
-      let known = accepted-file f yes-file in
-      rounded-passes (chainOf f) (closeness f) (file-chain f known .1) (known .years .to);
+  guarantee = λ f h μ. guaranteed (chainLeft f) (closeness (f .file)) μ (struck-chain f h .1);
+  rounding = λ f h. let both = struck-chain f h in rounded-passes (chainLeft f) (closeness (f .file)) (both .1) (both .0 .years);
 }

@@ -1,6 +1,6 @@
 -- The precision matrix is symmetric, and on its diagonal positive where the chain is carried: no part lacks an observation, and so none
 -- needs a prior.
-use Prim.Native.Nat.{ℕ, _+_, _*_, _<_, min}
+use Prim.Native.Nat.{ℕ, _+_, _*_, _≤_, _<_, min}
 use mathlib.Core.Path.{_≡_, refl, sym, ap, ap₂, _∙_, subst}
 use mathlib.Core.Bool.{Bool, true, false}
 use native.Mathlib.Omega.{arith}
@@ -58,6 +58,9 @@ module _ (c : Chain) where
           whole : (n : ℕ) → 1 * n ≡ n
           whole n = omega arith
 
+  -- with an own weight, as each part of a carried chain has it
+  pub diagonal-owned : (k : ℕ) → k < parts (c .last) → 1 ≤ own c k → pos 1 ≤ℤ matrix c k k
+  diagonal-owned k below owned = subst (λ a. pos 1 ≤ℤ a) (sym (diagonal-is k below)) (pos-≤ .0 (omega (arith, owned)))
+
   pub diagonal-positive : Carried c → (k : ℕ) → k < parts (c .last) → pos 1 ≤ℤ matrix c k k
-  diagonal-positive h k below =
-      subst (λ a. pos 1 ≤ℤ a) (sym (diagonal-is k below)) (pos-≤ .0 (omega (arith, carried-owned c h .owned k below)))
+  diagonal-positive h k below = diagonal-owned k below (carried-owned c h .owned k below)

@@ -1,5 +1,5 @@
 -- The sizes of an accepted file's observations, each drawn from the limits of the file's own fields, an amount's by its logarithm, and from
--- nothing wider. So its chain is bounded; that it is carried comes from its weights.
+-- nothing wider. So its chain is bounded.
 use Prim.Native.Nat.{ℕ, zero, suc, _+_, _*_, _-_, _≤_, _<_}
 use native.Mathlib.Nat.{le-trans}
 use native.Mathlib.Omega.{arith}
@@ -14,8 +14,8 @@ use Rattle.definitions.specs.Observations.{chainOf, paidStep, incurredStep, las
 use Rattle.laws.specs.Cells.{cell-below}
 use Rattle.laws.specs.Accepted.{AcceptedFile, Within}
 use Rattle.laws.specs.LogarithmBound.{logarithm-at-most}
-use Rattle.laws.specs.Chains.{observedLimit, Bounded, Carried}
-use Rattle.laws.specs.FileWeights.{part-to, prior-to, g-to, file-carried}
+use Rattle.laws.specs.Chains.{observedLimit, Bounded}
+use Rattle.laws.specs.FileWeights.{part-to, prior-to, g-to}
 
 -- ---- logarithms of amounts
 
@@ -84,7 +84,3 @@ module _ (f : Bytes) (h : AcceptedFile f) where
     priorΦ-to = λ j below. h .prior-means j (omega arith);
     priorΨ-to = λ j below. h .prior-means (psiIndex J j) (omega arith);
   }
-
--- every accepted file gives a chain that is bounded and carried
-pub file-chain : (f : Bytes) → AcceptedFile f → Bounded (chainOf f) × Carried (chainOf f)
-file-chain f h = (file-bounded f h, file-carried f h)

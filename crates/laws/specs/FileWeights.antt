@@ -1,5 +1,5 @@
--- The weights of an accepted file: where they lie, and that every g is at most the weights whose variances are in its sum. So its chain is
--- carried.
+-- The weights of an accepted file: where they lie, and that every g is at most the weights whose variances are in its sum. So each of its
+-- observations carries its column.
 use Prim.Native.Nat.{ℕ, _+_, _-_, _^_, _≤_, _<_}
 use mathlib.Core.Path.{_≡_, ap}
 use mathlib.Core.Logic.{inl, inr}
@@ -10,7 +10,7 @@ use Rattle.definitions.specs.Weight.{weight}
 use Rattle.definitions.specs.Observations.{chainOf, σ², τ², ratioVariance}
 use Rattle.laws.specs.Accepted.{AcceptedFile, PriorVariance, Within}
 use Rattle.laws.specs.WeightLaws.{weight-of-none, weight-falls, weight-positive, weight-at-most, weight-of-two-at-most}
-use Rattle.laws.specs.Chains.{Carried}
+use Rattle.laws.specs.Chains.{Carries}
 
 module _ (f : Bytes) (h : AcceptedFile f) where
   abbrev J : ℕ
@@ -84,15 +84,9 @@ module _ (f : Bytes) (h : AcceptedFile f) where
       by-variance (inl none) = rw (none, weight-of-none) (omega arith)
       by-variance (inr some) = weight-at-most _ (some .from)
 
-  -- the observations of year 0 are in every column
-  pub file-carried : Carried (chainOf f)
-  file-carried = record {
-    x-year = λ j. 0;
-    x-there = λ j below. omega arith;
-    x-counts = p-from;
-    x-shares = p-falls;
-    z-year = λ j. 0;
-    z-there = λ j below. omega arith;
-    z-counts = q-from;
-    z-shares = q-falls;
+  pub file-carries : Carries (chainOf f)
+  file-carries = record {
+    counted = record { x-counts = λ i j there. p-from j (omega arith); z-counts = λ i j there. q-from j (omega arith) };
+    x-shares = λ d i j past there. p-falls d j past (omega arith);
+    z-shares = λ d i j past there. q-falls d j past (omega arith);
   }

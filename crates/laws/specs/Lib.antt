@@ -19,9 +19,14 @@
 --   Sizes             the sizes of entries, rows, right-hand side and residues, over limits that are left open
 --   Chains            what is asked of a chain: bounded, for sizes; carried, for all else
 --   ChainLimits       the sizes of a bounded chain's figures, as numbers
---   Columns           with one weight for a column, own weight and right-hand side in document 01's words
---   FileWeights       the weights of an accepted file, each g at most those whose variances are in its sum: its chain is carried
---   FileChain         the sizes of an accepted file's observations: its chain is bounded, and carried
+--   StruckSteps       how many steps of a column are left; a strike that 27 lets pass leaves one in each
+--   Columns           with one weight for a column, struck steps aside, own weight and right-hand side in document 01's words
+--   SameChains        the figures of a chain depend on its triangles alone
+--   FileWeights       the weights of an accepted file, each g at most those whose variances are in its sum: each observation carries
+--   FileChain         the sizes of an accepted file's observations: its chain is bounded
+--   StruckChain       without its struck steps an accepted file's chain is bounded and carried
+--   StruckLoss        a struck step's term leaves the loss, and nothing else does
+--   Marks             what a session keeps holds the file's chain, and a step is struck out of both alike
 --   FormGuarantee     nearly least, near, strictly least, for such a loss
 --   Rounding          a mean within half a tick of a zero-residue vector has small residues
 --   Judged            passed exactly if every |residue| ≤ e·D
@@ -37,8 +42,9 @@
 --   PinnedAmounts     both once more, in plain numbers
 --   StepLaws          one step of a sweep: one part changes, stays inside, residues follow
 --   SweepLaws         no step and no sweep raises the loss; a swept mean stays inside the limits
---   MachineLaws       the machine answers alike on what a session keeps; every state that calls reach is empty, or an accepted file with
---                     a mean inside the limits and a total ≤ 4,096
+--   MachineLaws       the machine answers alike on what a session keeps
+--   ReachedStates     every state that calls reach is empty, or an accepted file with a step left in each column, a mean inside the limits
+--                     and a total ≤ 4,096
 --   Decimal           numbers as text: how many bytes they have, and that they are read back whole
 --   Lines             texts of lines: where each line stands, and that lines which end alike are told apart
 --   Pages             every value fits its columns, and two different means never share a page
@@ -47,6 +53,8 @@
 --   Numbers           a refusal has a number of the table
 --   Ultimates         the central ultimate: floor and remainder are those of its numerator, and no others
 --   PinnedUltimate    the same once more, in document 02's letters
+--   PinnedStrikes     own weights and right-hand sides without struck steps, in document 02's letters; what calls reach keeps a step in
+--                     each column
 pub mod Tables
 pub mod Filled
 pub mod Runs
@@ -67,9 +75,14 @@ pub mod Theorem34
 pub mod Sizes
 pub mod Chains
 pub mod ChainLimits
+pub mod StruckSteps
 pub mod Columns
+pub mod SameChains
 pub mod FileWeights
 pub mod FileChain
+pub mod StruckChain
+pub mod StruckLoss
+pub mod Marks
 pub mod FormGuarantee
 pub mod Rounding
 pub mod Judged
@@ -86,6 +99,7 @@ pub mod PinnedAmounts
 pub mod StepLaws
 pub mod SweepLaws
 pub mod MachineLaws
+pub mod ReachedStates
 pub mod Decimal
 pub mod Lines
 pub mod Pages
@@ -94,3 +108,4 @@ pub mod Printed
 pub mod Numbers
 pub mod Ultimates
 pub mod PinnedUltimate
+pub mod PinnedStrikes

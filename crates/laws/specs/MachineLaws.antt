@@ -1,31 +1,30 @@
--- The session machine of the specification: it answers alike on what a session keeps of a file, and every state that a list of calls
--- reaches from the empty one is empty, or an accepted file with a mean inside the limits and a total of at most 4,096.
-use Prim.Native.Nat.{ℕ, zero, suc, _+_, _*_, _-_, _≤_, _<_, zero-le}
+-- The session machine of the specification answers alike on what a session keeps of a file.
+use Prim.Native.Nat.{ℕ, _+_, _*_, _-_, _≤_, _<_}
 use mathlib.Core.Path.{_≡_, refl, sym, ap, ap₂, _∙_}
-use mathlib.Core.Bool.{Bool, true, false, not, cond, _||_}
+use mathlib.Core.Bool.{Bool, true, false, not, cond}
 use mathlib.Core.List.{List, [], _∷_, map}
-use native.Mathlib.Decide.{decLt}
 use native.Mathlib.Omega.{arith}
-use lib.Dec.{T, leb, ltb, nleb→lt}
-use lib.IntN.{ℤ, pos, natAbs}
-use lib.ListN.{length, List·getD-eq-default}
-use Rattle.definitions.specs.Words.{within, tabFrom, part}
-use Rattle.definitions.specs.Layout.{Bytes, lastYear, closeness, parts, psiIndex, cells, rowStart, varianceOf, priorMean, amount, recordLength}
+use lib.Dec.{leb, ltb}
+use lib.IntN.{ℤ, pos}
+use lib.ListN.{length}
+use Rattle.definitions.specs.Words.{within, part}
+use Rattle.definitions.specs.Layout.{Bytes, lastYear, parts, psiIndex, cells, rowStart, varianceOf, amount, recordLength}
 use Rattle.definitions.specs.Page.{pageLength}
-use Rattle.definitions.specs.Refusals.{Check, clear, refuses, fileCheck, partLimit, isClear, accepted}
-use Rattle.definitions.specs.Observations.{chainOf, logOf}
-use Rattle.definitions.specs.Matrix.{Figures, figuresFrom, figuresOf, passes}
-use Rattle.definitions.specs.Sweep.{sweeps, sweepLimit, oneSweep}
+use Rattle.definitions.specs.Refusals.{Check, clear, refuses, fileCheck}
+use Rattle.definitions.specs.Observations.{logOf}
+use Rattle.definitions.specs.Matrix.{Figures, figuresFrom, passes}
+use Rattle.definitions.specs.Strikes.{Step, step, strikeCheck, isStruck}
+use Rattle.definitions.specs.Sweep.{sweepLimit}
 use Rattle.definitions.specs.Ultimate.{Latest, latestOf, ultimateOf}
-use Rattle.definitions.specs.Machine.{Call, open-file, judge, sweep, read, page, ultimate, row, row-told, close}
-use Rattle.definitions.specs.Machine.{refused, ultimate-is, State, empty, holds, mapState, Keeping, Outcome, answers, openUnless, theFile}
-use Rattle.definitions.specs.Machine.{openCall, judgeCall, sweepCall, writeCall, recordIn, pageIn, ultimateCall, outcome, outcomes, machine}
+use Rattle.definitions.specs.Machine.{Call, open-file, judge, sweep, read, page, ultimate, strike, row, row-told, close}
+use Rattle.definitions.specs.Machine.{refused, ultimate-is, State, empty, holds, mapState, Keeping, Outcome, answers, openUnless, strikeUnless, theFile}
+use Rattle.definitions.specs.Machine.{openCall, judgeCall, sweepCall, writeCall, recordIn, pageIn, ultimateCall, strikeCall, outcome, outcomes}
 use Rattle.definitions.specs.Kept.{observedOf, keptOf, latestIn, inSession}
-use Rattle.laws.specs.Accepted.{within-yes, accepted-file, AcceptedFile}
+use Rattle.laws.specs.Accepted.{within-yes}
 use Rattle.laws.specs.Cells.{cell-below}
-use Rattle.laws.specs.FileChain.{file-chain}
-use Rattle.laws.specs.Tables.{tab-at, tabFrom-length}
-use Rattle.laws.specs.SweepLaws.{MeanOf, sweeps-came}
+use Rattle.laws.specs.Marks.{marked-x, marked-z, struck-alike}
+use Rattle.laws.specs.StruckSteps.{check-cong}
+use Rattle.laws.specs.Tables.{tab-at}
 use Rattle.laws.specs.Ultimates.{SameLatest, ultimate-cong}
 
 -- ---- what is kept, in another form
@@ -33,8 +32,7 @@ use Rattle.laws.specs.Ultimates.{SameLatest, ultimate-cong}
 abbrev pub mapOutcome : {X Y : Type 0} → (X → Y) → Outcome X → Outcome Y
 mapOutcome φ o = record { answer = o .answer; state = mapState φ (o .state); buffer = o .buffer }
 
--- judge, sweep, read and page, which use the figures alone, where the figures are the same in both forms
-module _ {X Y : Type 0} (φ : X → Y) (F : X → Figures) (G : Y → Figures) (same : (x : X) → G (φ x) ≡ F x) where
+module _ {X Y : Type 0} (φ : X → Y) where
   map-cond : (t : Bool) (a b : Outcome X) → mapOutcome φ (cond t a b) ≡ cond t (mapOutcome φ a) (mapOutcome φ b)
   map-cond true a b = refl
   map-cond false a b = refl
@@ -48,6 +46,8 @@ module _ {X Y : Type 0} (φ : X → Y) (F : X → Figures) (G : Y → Figures) (
       ≡ cond r (mapOutcome φ a) (cond s (mapOutcome φ b) (cond t (mapOutcome φ c) (mapOutcome φ d)))
   map-cond₃ r s t a b c d = map-cond r a (cond s b (cond t c d)) ∙ ap (cond r (mapOutcome φ a)) (map-cond₂ s t b c d)
 
+-- judge, sweep, read and page, which use the figures alone, where the figures are the same in both forms
+module _ {X Y : Type 0} (φ : X → Y) (F : X → Figures) (G : Y → Figures) (same : (x : X) → G (φ x) ≡ F x) where
   pub judge-alike : (st : State X) (r : Bytes) → judgeCall G (mapState φ st) r ≡ judgeCall F st r
   unfolding judgeCall
   judge-alike empty r = refl
@@ -57,14 +57,14 @@ module _ {X Y : Type 0} (φ : X → Y) (F : X → Figures) (G : Y → Figures) (
   unfolding sweepCall
   sweep-alike empty n = refl
   sweep-alike (holds x μ total) n =
-      rw (same x) (sym (map-cond₃ (not (within 1 sweepLimit n)) (passes (F x) (part μ)) (leb sweepLimit total) _ _ _ _))
+      rw (same x) (sym (map-cond₃ φ (not (within 1 sweepLimit n)) (passes (F x) (part μ)) (leb sweepLimit total) _ _ _ _))
 
   pub write-alike : (size : ℕ → ℕ) (text : Figures → List ℤ → Bytes) (st : State X) (b : Bytes)
       → writeCall G size text (mapState φ st) b ≡ mapOutcome φ (writeCall F size text st b)
   unfolding writeCall
   write-alike size text empty b = refl
   write-alike size text (holds x μ total) b =
-      rw (same x) (sym (map-cond₂ (not (passes (F x) (part μ))) (ltb (length b) (size (F x .last))) _ _ _))
+      rw (same x) (sym (map-cond₂ φ (not (passes (F x) (part μ))) (ltb (length b) (size (F x .last))) _ _ _))
 
 -- ultimate, where the latest amounts and the variances are the same besides
 module _ {X Y : Type 0} (φ : X → Y) (F : X → Figures) (G : Y → Figures) (a : X → Latest) (b : Y → Latest)
@@ -99,13 +99,29 @@ write-alone {X} figures size text (holds x μ total) b =
 
 -- ---- one way of keeping a file in the place of another
 
+-- the latest amounts and the marks as far as they exist
 pub record Alike {X Y : Type 0} (K : Keeping X) (L : Keeping Y) (φ : X → Y) : Type 0 where
   pub keeps : (f : Bytes) → φ (K .keep f) ≡ L .keep f
   pub figures : (x : X) → L .figures (φ x) ≡ K .figures x
   pub priorMeans : (x : X) → L .priorMeans (φ x) ≡ K .priorMeans x
   pub latest : (x : X) → SameLatest (K .figures x .last) (L .latest (φ x)) (K .latest x)
+  pub struck-x : (x : X) (i j : ℕ) → i + j ≤ K .figures x .last → L .struck (φ x) (step 0 i j) ≡ K .struck x (step 0 i j)
+  pub struck-z : (x : X) (i j : ℕ) → i + j < K .figures x .last → L .struck (φ x) (step 1 i j) ≡ K .struck x (step 1 i j)
+  pub strikes : (x : X) (s : Step) → φ (K .strikeOut s x) ≡ L .strikeOut s (φ x)
 
 module _ {X Y : Type 0} (K : Keeping X) (L : Keeping Y) (φ : X → Y) (h : Alike K L φ) where
+  strike-unless : (c : Check) (s : Step) (x : X) (μ : List ℤ) (total : ℕ)
+      → strikeUnless L c s (φ x) μ total ≡ mapOutcome φ (strikeUnless K c s x μ total)
+  strike-unless clear s x μ total = rw (sym (h .strikes x s), h .priorMeans x) refl
+  strike-unless (refuses number place) s x μ total = refl
+
+  strike-alike : (st : State X) (s : Step) → strikeCall L (mapState φ st) s ≡ mapOutcome φ (strikeCall K st s)
+  unfolding strikeCall
+  strike-alike empty s = refl
+  strike-alike (holds x μ total) s =
+      rw (h .figures x, check-cong (K .figures x .last) (L .struck (φ x)) (K .struck x) (h .struck-x x) (h .struck-z x) s)
+      (strike-unless (strikeCheck (K .figures x .last) (K .struck x) s) s x μ total)
+
   open-alike : (c : Check) (f : Bytes) → openUnless L c f ≡ mapOutcome φ (openUnless K c f)
   open-alike clear f = rw (sym (h .keeps f), h .priorMeans (K .keep f)) refl
   open-alike (refuses number place) f = refl
@@ -120,6 +136,7 @@ module _ {X Y : Type 0} (K : Keeping X) (L : Keeping Y) (φ : X → Y) (h : Alik
   outcome-alike st (page b) = write-alike φ (K .figures) (L .figures) (h .figures) pageLength pageIn st b
   outcome-alike st (ultimate year) =
       ap (answers (mapState φ st)) (ultimate-alike φ (K .figures) (L .figures) (K .latest) (L .latest) (h .figures) (h .latest) st year)
+  outcome-alike st (strike s) = strike-alike st s
   outcome-alike st (row f channel year) = refl
   outcome-alike st (row-told f channel year) = refl
   outcome-alike st close = refl
@@ -148,86 +165,12 @@ latest-kept f = record {
 -- what a session keeps, in the place of the file
 pub session-alike : Alike theFile inSession keptOf
 unfolding figuresFrom
-session-alike = record { keeps = λ f. refl; figures = λ f. refl; priorMeans = λ f. refl; latest = latest-kept }
-
--- ---- states that calls reach
-
-abbrev pub Good : State Bytes → Type 0
-Good empty = Unit {0}
-Good (holds f μ total) = (accepted f ≡ true) × MeanOf (lastYear f) μ × (total ≤ sweepLimit)
-
-pub priors-mean : (f : Bytes) → AcceptedFile f → MeanOf (lastYear f) (tabFrom 0 (parts (lastYear f)) (priorMean f))
-priors-mean f h = record { whole = tabFrom-length 0 n (priorMean f); inside = λ l. by-index (decLt l n) }
-  where
-    n : ℕ
-    n = parts (lastYear f)
-
-    priors : List ℤ
-    priors = tabFrom 0 n (priorMean f)
-
-    behind : {l : ℕ} → ¬ (l < n) → length priors ≤ l
-    behind no-part = rw (tabFrom-length 0 n (priorMean f)) (omega arith)
-
-    by-index : {l : ℕ} → Dec (l < n) → natAbs (part priors l) ≤ partLimit
-    by-index {l} (yes below) = rw (tab-at n (priorMean f) l (pos 0) below) (h .prior-means l below)
-    by-index {l} (no above) = rw (List·getD-eq-default priors (pos 0) {n = l} (behind above)) zero-le
-
--- no call runs a sweep past the limit
-pub sweeps-total : (F : Figures) (n : ℕ) (μ : List ℤ) (total : ℕ) → total ≤ sweepLimit → sweeps F n μ total .swept ≤ sweepLimit
-unfolding sweeps
-sweeps-total F zero μ total few = few
-sweeps-total F (suc n) μ total few =
-    by-test (passes F (part μ)) (leb sweepLimit total) (nleb→lt sweepLimit total) (sweeps-total F n (oneSweep F μ) (suc total))
-  where
-    by-test : (p t : Bool) → (T (not t) → total < sweepLimit)
-        → (total < sweepLimit → sweeps F n (oneSweep F μ) (suc total) .swept ≤ sweepLimit)
-        → cond (p || t) (record { mean = μ; swept = total }) (sweeps F n (oneSweep F μ) (suc total)) .swept ≤ sweepLimit
-    by-test true t less further = few
-    by-test false true less further = few
-    by-test false false less further = further (less tt)
-
-good-cond : (t : Bool) (a b : Outcome Bytes) → Good (a .state) → Good (b .state) → Good (cond t a b .state)
-good-cond true a b x y = x
-good-cond false a b x y = y
-
-good-write : (size : ℕ → ℕ) (text : Figures → List ℤ → Bytes) (st : State Bytes) (b : Bytes)
-    → Good st → Good (writeCall figuresOf size text st b .state)
-unfolding writeCall
-good-write size text empty b g = g
-good-write size text (holds f μ total) b g =
-    good-cond (not (passes (figuresOf f) (part μ))) _ _ g (good-cond (ltb (length b) (size (figuresOf f .last))) _ _ g g)
-
-pub good-call : (st : State Bytes) (call : Call) → Good st → Good (machine st call .state)
-unfolding outcome openCall sweepCall
-good-call empty (open-file f) g = by-check (fileCheck f) refl
-  where
-    by-check : (c : Check) → fileCheck f ≡ c → Good (openUnless theFile c f .state)
-    by-check clear e = let yes-file : accepted f ≡ true = ap isClear e in (yes-file, priors-mean f (accepted-file f yes-file), zero-le)
-    by-check (refuses number place) e = tt
-good-call (holds f μ total) (open-file h) g = g
-good-call st (judge r) g = g
-good-call empty (sweep n) g = g
-good-call (holds f μ total) (sweep n) g =
-    let carried = file-chain f (accepted-file f (g .0)) .1 in
-    let came = sweeps-came (chainOf f) (closeness f) carried n μ total (g .1) in
-    good-cond (not (within 1 sweepLimit n)) _ _ g (good-cond (passes (figuresOf f) (part μ)) _ _ g (good-cond (leb sweepLimit total) _ _ g
-    (g .0, came .mean, sweeps-total (figuresOf f) n μ total (g .2))))
-good-call st (read b) g = good-write recordLength recordIn st b g
-good-call st (page b) g = good-write pageLength pageIn st b g
-good-call st (ultimate year) g = g
-good-call st (row f channel year) g = g
-good-call st (row-told f channel year) g = g
-good-call st close g = tt
-
--- the state after a list of calls
-unfoldable pub after : State Bytes → List Call → State Bytes
-after st [] = st
-after st (call ∷ calls) = after (machine st call .state) calls
-
-good-after : (calls : List Call) (st : State Bytes) → Good st → Good (after st calls)
-unfolding after
-good-after [] st g = g
-good-after (call ∷ calls) st g = good-after calls (machine st call .state) (good-call st call g)
-
-pub reached-good : (calls : List Call) → Good (after empty calls)
-reached-good calls = good-after calls empty tt
+session-alike = record {
+  keeps = λ f. refl;
+  figures = λ f. refl;
+  priorMeans = λ f. refl;
+  latest = λ f. latest-kept (f .file);
+  struck-x = λ f. marked-x (lastYear (f .file)) (isStruck f);
+  struck-z = λ f. marked-z (lastYear (f .file)) (isStruck f);
+  strikes = struck-alike;
+}

@@ -22,7 +22,7 @@ use Rattle.definitions.specs.Matrix.{partOf, own, matrix}
 use Rattle.definitions.specs.Machine.{State, empty, holds, Keeping, Outcome, refused, Call, answers, openUnless, openCall, outcome}
 use Rattle.laws.specs.ClearChecks.{fields-good, fields-bad}
 use Rattle.laws.specs.Accepted.{accepted-file}
-use Rattle.laws.specs.FileChain.{file-chain}
+use Rattle.laws.specs.StruckChain.{file-chain}
 use Rattle.laws.specs.Diagonal.{diagonal-positive}
 use Rattle.laws.specs.Pinned.{in-table}
 
@@ -91,6 +91,6 @@ module _ (X : Type 0) (K : Keeping X) where
   pub never-16 : (st : State X) (call : Call) (place : ℕ) → outcome K st call .answer ≢ refused 16 place
   never-16 st call place e = neither (in-table X K st call 16 place e)
     where
-      neither : ((1 ≤ 16) × (16 ≤ 15)) ⊎ ((21 ≤ 16) × (16 ≤ 25)) → ⊥
+      neither : ((1 ≤ 16) × (16 ≤ 15)) ⊎ ((21 ≤ 16) × (16 ≤ 27)) → ⊥
       neither (inl h) = omega (arith, h .1)
       neither (inr h) = omega (arith, h .0)

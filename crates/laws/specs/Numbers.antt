@@ -13,14 +13,16 @@ use Rattle.definitions.specs.Refusals.{check1, check2, check3, check4, check5, 
 use Rattle.definitions.specs.Refusals.{fileCheck, rowCheck, recordCheck}
 use Rattle.definitions.specs.Matrix.{Figures, passes}
 use Rattle.definitions.specs.Sweep.{sweeps, sweepLimit}
+use Rattle.definitions.specs.Strikes.{Step, step, isStep, leftBeside, strikeCheck}
 use Rattle.definitions.specs.Ultimate.{Latest, Ultimate}
-use Rattle.definitions.specs.Machine.{Outcome, Answer, refused, opened, judged, settled, going, written, ultimate-is, part-shown, row-is-shown, closed}
-use Rattle.definitions.specs.Machine.{State, empty, holds, Keeping, openUnless, refusedOr}
-use Rattle.definitions.specs.Machine.{openCall, judgeCall, sweepCall, writeCall, ultimateCall}
+use Rattle.definitions.specs.Machine.{Outcome, Answer, refused, opened, judged, settled, going, written, ultimate-is, struck-out, part-shown}
+use Rattle.definitions.specs.Machine.{row-is-shown, closed}
+use Rattle.definitions.specs.Machine.{State, empty, holds, Keeping, openUnless, strikeUnless, refusedOr}
+use Rattle.definitions.specs.Machine.{openCall, judgeCall, sweepCall, writeCall, ultimateCall, strikeCall}
 
 -- the numbers of the input, and those of the state
 abbrev pub inTable : ℕ → Bool
-inTable n = within 1 15 n || within 21 25 n
+inTable n = within 1 15 n || within 21 27 n
 
 -- ---- checks
 
@@ -81,6 +83,13 @@ record-numbered J r =
     and-then unless-numbered (eqb (length r) (recordLength J)) 4 0 tt
     and-then fields-numbered _ 11 _ 0 _ tt
 
+step-numbered : (J : ℕ) (struck : Step → Bool) (s : Step) → Numbered (strikeCheck J struck s)
+unfolding strikeCheck
+step-numbered J struck (step channel i j) =
+    unless-numbered (leb channel 1) 14 0 tt
+    and-then unless-numbered (isStep J (step channel i j) && not (struck (step channel i j))) 26 0 tt
+    and-then unless-numbered (not (eqb (leftBeside J struck (step channel i j)) 1)) 27 0 tt
+
 -- ---- answers
 
 abbrev pub NumberedAnswer : Answer → Type 0
@@ -91,6 +100,7 @@ NumberedAnswer (settled total) = Unit {0}
 NumberedAnswer (going total) = Unit {0}
 NumberedAnswer written = Unit {0}
 NumberedAnswer (ultimate-is r) = Unit {0}
+NumberedAnswer struck-out = Unit {0}
 NumberedAnswer (part-shown b) = Unit {0}
 NumberedAnswer row-is-shown = Unit {0}
 NumberedAnswer closed = Unit {0}
@@ -151,3 +161,13 @@ ultimate-numbered figures latest (holds x μ total) year =
     by-tests true b r = tt
     by-tests false true r = tt
     by-tests false false r = tt
+
+pub strike-numbered : {X : Type 0} (K : Keeping X) (st : State X) (s : Step) → NumberedAnswer (strikeCall K st s .answer)
+unfolding strikeCall
+strike-numbered K empty s = tt
+strike-numbered K (holds x μ total) s =
+    by-check (strikeCheck (K .figures x .last) (K .struck x) s) (step-numbered (K .figures x .last) (K .struck x) s)
+  where
+    by-check : (c : Check) → Numbered c → NumberedAnswer (strikeUnless K c s x μ total .answer)
+    by-check clear h = tt
+    by-check (refuses number place) h = h .listed

@@ -18,7 +18,7 @@ use Rattle.definitions.specs.Text.{ascii, space, lineFeed, decimalFrom, moreDig
 use Rattle.definitions.specs.Page.{pageLine, pageOf, columns, LineFits, PageFits}
 use Rattle.laws.specs.Accepted.{accepted-file}
 use Rattle.laws.specs.ChainLimits.{chain-limits}
-use Rattle.laws.specs.FileChain.{file-chain}
+use Rattle.laws.specs.StruckChain.{file-chain}
 use Rattle.laws.specs.Tables.{tab-at}
 use Rattle.laws.specs.Decimal.{aligned-read, aligned-length, decimal-length, signed-length, From, from-append, aligned-from}
 use Rattle.laws.specs.Lines.{lines-same, lines-length, line-at, Line, ended, line-behind, same-lines}

@@ -17,13 +17,14 @@ use Rattle.definitions.specs.Words.{within}
 use Rattle.definitions.specs.Layout.{Bytes, lastYear, closeness, recordLength}
 use Rattle.definitions.specs.Page.{pageLength}
 use Rattle.definitions.specs.Loss.{Vector, weighted, ratio, loss, lossTimes}
-use Rattle.definitions.specs.Observations.{Chain, chainOf}
-use Rattle.definitions.specs.Refusals.{clear, rowCheck, accepted}
-use Rattle.definitions.specs.Matrix.{own, residueTimes, figuresOf, passes}
-use Rattle.definitions.specs.Machine.{Call, open-file, judge, sweep, read, page, ultimate, row, row-told, close}
+use Rattle.definitions.specs.Observations.{Chain}
+use Rattle.definitions.specs.Refusals.{clear, rowCheck}
+use Rattle.definitions.specs.Matrix.{own, residueTimes, passes}
+use Rattle.definitions.specs.Strikes.{Step, StruckFile, Admitted, chainLeft, figuresLeft}
+use Rattle.definitions.specs.Machine.{Call, open-file, judge, sweep, read, page, ultimate, strike, row, row-told, close}
 use Rattle.definitions.specs.Machine.{State, empty, mapState, Keeping, outcomes}
 use Rattle.definitions.specs.Machine.{closed, refused, part-shown, row-is-shown, refusedOr, rowPart}
-use Rattle.definitions.specs.Machine.{recordIn, pageIn, openCall, judgeCall, sweepCall, readCall, pageCall, ultimateCall, outcome, theFile}
+use Rattle.definitions.specs.Machine.{recordIn, pageIn, openCall, judgeCall, sweepCall, readCall, pageCall, ultimateCall, strikeCall, outcome, theFile}
 use Rattle.definitions.specs.Kept.{keptOf, inSession}
 use Rattle.definitions.specs.Guarantee.{Guarantee, Rounded}
 use Rattle.laws.specs.Accepted.{Within, within-yes}
@@ -34,33 +35,33 @@ use Rattle.laws.specs.Numbers as N
 use Rattle.laws.specs.Rows.{empty-is-refused}
 use Rattle.laws.specs.Theorem34.{loss-expands}
 
-module _ (f : Bytes) where
+module _ (f : StruckFile) where
   -- of each part
   abbrev pub Each : (ℕ → Type 0) → Type 0
-  Each P = (k : ℕ) → k < 2 * lastYear f + 1 → P k
+  Each P = (k : ℕ) → k < 2 * lastYear (f .file) + 1 → P k
 
   abbrev D : ℕ → ℕ
-  D = own (chainOf f)
+  D = own (chainLeft f)
 
   abbrev residueOf : ℕ → Vector → ℕ → ℤ
-  residueOf = residueTimes (chainOf f)
+  residueOf = residueTimes (chainLeft f)
 
   -- e² times the sum of own weights, times m²
   abbrev slackOf : ℕ → ℕ → ℤ
-  slackOf e m = pos (m * m * (e * e * total (2 * lastYear f + 1) D))
+  slackOf e m = pos (m * m * (e * e * total (2 * lastYear (f .file) + 1) D))
 
   -- what a mean that passes is worth, with closeness e
   pub record Worth (e : ℕ) (μ : Vector) : Type 0 where
     pub nearly-least : (m : ℕ) (u : Vector) → 1 ≤ m
-        → (pos (m * m) *ℤ loss (chainOf f) μ) ≤ℤ (lossTimes (chainOf f) m u +ℤ slackOf e m)
+        → (pos (m * m) *ℤ loss (chainLeft f) μ) ≤ℤ (lossTimes (chainLeft f) m u +ℤ slackOf e m)
     pub near : (m : ℕ) (u : Vector) → 1 ≤ m → Each (λ k. residueOf m u k ≡ pos 0)
-        → sum (2 * lastYear f + 1) (λ k. pos (D k) *ℤ ((u k -ℤ pos m *ℤ μ k) *ℤ (u k -ℤ pos m *ℤ μ k))) ≤ℤ slackOf e m
+        → sum (2 * lastYear (f .file) + 1) (λ k. pos (D k) *ℤ ((u k -ℤ pos m *ℤ μ k) *ℤ (u k -ℤ pos m *ℤ μ k))) ≤ℤ slackOf e m
     -- u/m differs in part p, and perhaps in no other
     pub strictly-least : Each (λ k. residueOf 1 μ k ≡ pos 0)
-        → (m : ℕ) (u : Vector) → 1 ≤ m → (p : ℕ) → p < 2 * lastYear f + 1 → u p ≢ pos m *ℤ μ p
-        → (pos (m * m) *ℤ loss (chainOf f) μ) <ℤ lossTimes (chainOf f) m u
+        → (m : ℕ) (u : Vector) → 1 ≤ m → (p : ℕ) → p < 2 * lastYear (f .file) + 1 → u p ≢ pos m *ℤ μ p
+        → (pos (m * m) *ℤ loss (chainLeft f) μ) <ℤ lossTimes (chainLeft f) m u
 
-  pub worth : {e : ℕ} → closeness f ≡ e → {μ : Vector} → Guarantee (chainOf f) (closeness f) μ → Worth e μ
+  pub worth : {e : ℕ} → closeness (f .file) ≡ e → {μ : Vector} → Guarantee (chainLeft f) (closeness (f .file)) μ → Worth e μ
   worth e-is g = record {
     nearly-least = λ m u some. rw e-is at (g .nearly-least m u some);
     near = λ m u some none. rw e-is at (g .near m u some none);
@@ -69,7 +70,7 @@ module _ (f : Bytes) where
 
   -- what is known of a mean that was rounded
   pub record Near (μ : Vector) : Type 0 where
-    pub room : 256 ≤ closeness f
+    pub room : 256 ≤ closeness (f .file)
     pub limits : Each (λ k. natAbs (μ k) ≤ 67108864)
     pub m : ℕ
     pub u : Vector
@@ -77,7 +78,7 @@ module _ (f : Bytes) where
     pub exact : Each (λ k. residueOf m u k ≡ pos 0)
     pub half : Each (λ k. 2 * natAbs (u k -ℤ pos m *ℤ μ k) ≤ m)
 
-  pub rounded : {μ : Vector} → Near μ → Rounded (chainOf f) (closeness f) μ
+  pub rounded : {μ : Vector} → Near μ → Rounded (chainLeft f) (closeness (f .file)) μ
   rounded h = record {
     room = h .room;
     inside = h .limits;
@@ -88,17 +89,17 @@ module _ (f : Bytes) where
     half = h .half;
   }
 
-  -- ---- of an accepted file
+  -- ---- of an accepted file with a step left in each column
 
-  module _ (yes-file : accepted f ≡ true) (μ : Vector) where
+  module _ (h : Admitted f) (μ : Vector) where
     -- each residue as large as the test lets it be
-    pub at-the-bound : (e : ℕ) → closeness f ≡ e → Each (λ k. natAbs (residueOf 1 μ k) ≡ e * D k) → Worth e μ
+    pub at-the-bound : (e : ℕ) → closeness (f .file) ≡ e → Each (λ k. natAbs (residueOf 1 μ k) ≡ e * D k) → Worth e μ
     at-the-bound e e-is at-bound =
-        worth e-is (demand3 .guarantee f yes-file μ (passes-of-small (chainOf f) (closeness f) μ (λ k below.
+        worth e-is (demand3 .guarantee f h μ (passes-of-small (chainLeft f) (closeness (f .file)) μ (λ k below.
         le-of-eq (at-bound k below ∙ ap (λ e. e * D k) (sym e-is)))))
 
-    pub near-passes : Near μ → passes (figuresOf f) μ ≡ true
-    near-passes h = demand3 .rounding f yes-file μ (rounded h)
+    pub near-passes : Near μ → passes (figuresLeft f) μ ≡ true
+    near-passes near = demand3 .rounding f h μ (rounded near)
 
 -- ---- the machine, call by call, whatever is kept of a file
 
@@ -114,6 +115,7 @@ module _ (X : Type 0) (K : Keeping X) (st : State X) where
     pub pages-alone : (b : Bytes) → outcome K st (page b) .state ≡ st
     pub ultimates : (year : ℕ)
         → outcome K st (ultimate year) ≡ record { answer = ultimateCall (K .figures) (K .latest) st year; state = st; buffer = [] }
+    pub strikes : (s : Step) → outcome K st (strike s) ≡ strikeCall K st s
     pub shows : (f : Bytes) (channel year : ℕ)
         → outcome K st (row f channel year) ≡ record { answer = part-shown (rowPart f channel year); state = st; buffer = [] }
     pub tells : (f : Bytes) (channel year : ℕ)
@@ -133,6 +135,7 @@ module _ (X : Type 0) (K : Keeping X) (st : State X) where
     pages = λ b. refl;
     pages-alone = write-alone (K .figures) pageLength pageIn st;
     ultimates = λ year. refl;
+    strikes = λ s. refl;
     shows = λ f channel year. refl;
     tells = λ f channel year. refl;
     closes = refl;
@@ -149,24 +152,25 @@ call-numbered X K st (sweep n) = N.sweep-numbered (K .figures) st n
 call-numbered X K st (read b) = N.write-numbered (K .figures) recordLength recordIn st b
 call-numbered X K st (page b) = N.write-numbered (K .figures) pageLength pageIn st b
 call-numbered X K st (ultimate year) = N.ultimate-numbered (K .figures) (K .latest) st year
+call-numbered X K st (strike s) = N.strike-numbered K st s
 call-numbered X K st (row f channel year) = tt
 call-numbered X K st (row-told f channel year) =
     N.refused-or (rowCheck f channel year) row-is-shown (N.row-numbered f channel year) tt
 call-numbered X K st close = tt
 
 pub in-table : (X : Type 0) (K : Keeping X) (st : State X) (call : Call) (number place : ℕ)
-    → outcome K st call .answer ≡ refused number place → ((1 ≤ number) × (number ≤ 15)) ⊎ ((21 ≤ number) × (number ≤ 25))
+    → outcome K st call .answer ≡ refused number place → ((1 ≤ number) × (number ≤ 15)) ⊎ ((21 ≤ number) × (number ≤ 27))
 in-table X K st call number place e =
     by-first (within 1 15 number) (within-yes 1 15 number) (subst N.NumberedAnswer e (call-numbered X K st call))
   where
-    by-first : (t : Bool) → (T t → Within 1 15 number) → T (t || within 21 25 number)
-        → ((1 ≤ number) × (number ≤ 15)) ⊎ ((21 ≤ number) × (number ≤ 25))
+    by-first : (t : Bool) → (T t → Within 1 15 number) → T (t || within 21 27 number)
+        → ((1 ≤ number) × (number ≤ 15)) ⊎ ((21 ≤ number) × (number ≤ 27))
     by-first true first listed = let w = first tt in inl (w .from, w .to)
-    by-first false first listed = let w = within-yes 21 25 number listed in inr (w .from, w .to)
+    by-first false first listed = let w = within-yes 21 27 number listed in inr (w .from, w .to)
 
 -- ---- over lists of calls what a session keeps answers as the file does, and an empty row is a refused one
 
-pub same-outcomes : (calls : List Call) (st : State Bytes)
+pub same-outcomes : (calls : List Call) (st : State StruckFile)
     → outcomes inSession (mapState keptOf st) calls ≡ map (mapOutcome keptOf) (outcomes theFile st calls)
 same-outcomes = outcomes-alike theFile inSession keptOf session-alike
 

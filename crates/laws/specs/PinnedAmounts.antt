@@ -4,7 +4,7 @@
 use Prim.Native.Nat.{ℕ, _+_, _*_, _-_, _^_, _≤_, _<_}
 use mathlib.Core.Path.{_≡_, refl, subst}
 use mathlib.Core.Logic.{_⊎_, _↔_}
-use mathlib.Core.Bool.{true}
+use mathlib.Core.Bool.{true, false}
 use borrow.Author.Tests.{le-leb}
 use lib.Dec.{leb}
 use lib.IntN.{pos, natAbs, _+ℤ_, _-ℤ_, _*ℤ_}
@@ -25,7 +25,8 @@ use Rattle.laws.specs.LargerAmounts.{fileCheck-is, amounts-kept, same-bu
 use Rattle.laws.specs.Chains.{Bounded}
 use Rattle.laws.specs.ChainLimits.{phi-firsts, psi-firsts, ratios-fit, right-hand-fits, residue-fits, numerator-fits}
 use Rattle.laws.specs.Columns.{firsts-of-phi, firsts-of-psi}
-use Rattle.laws.specs.FileChain.{logarithm-limit, x-limit, z-limit, y-limit, x-sum-fits, z-sum-fits, file-chain}
+use Rattle.laws.specs.FileChain.{logarithm-limit, x-limit, z-limit, y-limit, x-sum-fits, z-sum-fits}
+use Rattle.laws.specs.StruckChain.{file-chain}
 
 -- the amounts that number 9 calls good
 pub amount-taken : (a : ℕ) → (goodAmount a ≡ true) ↔ ((1 ≤ a) × (a ≤ 17592186044416))
@@ -102,12 +103,14 @@ module _ (f : Bytes) where
     pub own-side-of-phi-to : (j : ℕ) → j ≤ J
         → natAbs (pos (c .s j) *ℤ c .priorΦ j +ℤ pos (weight (σ² f j)) *ℤ sum (J - j + 1) (λ i. c .x i j)) ≤ 1536 * 2 ^ 47
     own-side-of-phi-to j below =
-        subst (λ z. natAbs z ≤ 1536 * 2 ^ 47) (firsts-of-phi c j (weight (σ² f j)) below (λ i there. refl)) (phi-firsts c bounded j below)
+        subst (λ z. natAbs z ≤ 1536 * 2 ^ 47)
+        (firsts-of-phi c j (weight (σ² f j)) (λ i. false) below (λ i there. refl)) (phi-firsts c bounded j below)
 
     pub own-side-of-psi-to : (j : ℕ) → j < J
         → natAbs (pos (c .t j) *ℤ c .priorΨ j +ℤ pos (weight (τ² f j)) *ℤ sum (J - j) (λ i. c .z i j)) ≤ 1536 * 2 ^ 47
     own-side-of-psi-to j below =
-        subst (λ z. natAbs z ≤ 1536 * 2 ^ 47) (firsts-of-psi c j (weight (τ² f j)) (λ i there. refl)) (psi-firsts c bounded j below)
+        subst (λ z. natAbs z ≤ 1536 * 2 ^ 47)
+        (firsts-of-psi c j (weight (τ² f j)) (λ i. false) (λ i there. refl)) (psi-firsts c bounded j below)
 
     pub ratios-to : (m : ℕ) → m ≤ J → natAbs (ratiosOfLast c m) ≤ 660 * 2 ^ 47
     ratios-to = ratios-fit c bounded

@@ -13,16 +13,17 @@ use Rattle.definitions.specs.Layout.{Bytes, lastYear, closeness, parts, priorMe
 use Rattle.definitions.specs.Refusals.{Check, clear, refuses, fileCheck, yearLimit, partLimit, isClear, accepted}
 use Rattle.definitions.specs.Observations.{chainOf}
 use Rattle.definitions.specs.Matrix.{Part, partOf, Figures, figuresFrom, figuresOf, passes}
+use Rattle.definitions.specs.Strikes.{StruckFile, unstruck, figuresLeft}
 use Rattle.definitions.specs.Sweep.{Swept, sweeps}
 use Rattle.definitions.specs.Text.{ascii, space, lineFeed, moreDigits, decimal, signedDecimal, nameOf, indexOf, lines}
-use Rattle.definitions.specs.Machine.{Answer, refused, opened, judged, settled, going, written, ultimate-is, part-shown, row-is-shown, closed}
+use Rattle.definitions.specs.Machine.{Answer, refused, opened, judged, settled, going, written, ultimate-is, struck-out, part-shown, row-is-shown, closed}
 use Rattle.definitions.specs.Machine.{State, empty, holds, mapState, Outcome, theFile, openUnless, openCall, sweepCall}
 use Rattle.definitions.specs.Programs.{countLine, partLine, refusalLine, spentLine, Show, printed, shown, sweepText, openText, programText}
 use Rattle.definitions.specs.Programs.{listed, listing}
 use Rattle.laws.specs.Accepted.{accepted-file}
-use Rattle.laws.specs.FileChain.{file-chain}
+use Rattle.laws.specs.StruckChain.{file-chain}
 use Rattle.laws.specs.SweepLaws.{MeanOf, sweeps-came}
-use Rattle.laws.specs.MachineLaws.{priors-mean}
+use Rattle.laws.specs.ReachedStates.{priors-mean}
 use Rattle.laws.specs.Decimal.{decimal-most, signed-most}
 use Rattle.laws.specs.Lines.{lines-most}
 use Rattle.laws.specs.Pages.{three-columns}
@@ -47,17 +48,18 @@ Ends given st opened = ⊥
 Ends given st (judged verdict) = ⊥
 Ends given st written = ⊥
 Ends given st (ultimate-is r) = ⊥
+Ends given st struck-out = ⊥
 Ends given st (part-shown bytes) = ⊥
 Ends given st row-is-shown = ⊥
 Ends given st closed = ⊥
 
 module _ (given : Bytes) where
   -- what an outcome's answer and state have printed
-  abbrev Prints : Outcome Bytes → Type 0
+  abbrev Prints : Outcome StruckFile → Type 0
   Prints o = (show : Show) → programText show given ≡ printed (o .answer) [] (λ total. shown show (o .state))
 
-  abbrev EndsWith : Outcome Bytes → Type 0
-  EndsWith o = Ends given (mapState figuresOf (o .state)) (o .answer)
+  abbrev EndsWith : Outcome StruckFile → Type 0
+  EndsWith o = Ends given (mapState figuresLeft (o .state)) (o .answer)
 
   -- ---- sweep: of an accepted file it is not refused, and the mean that is held afterwards decides
 
@@ -71,12 +73,12 @@ module _ (given : Bytes) where
   end = sweeps F 4096 priors 0
 
   -- by the test of the prior means, and by that of the mean that was swept
-  abbrev swept : Bool → Bool → Outcome Bytes
+  abbrev swept : Bool → Bool → Outcome StruckFile
   swept at-once in-the-end =
-      cond at-once (record { answer = settled 0; state = holds given priors 0; buffer = [] })
+      cond at-once (record { answer = settled 0; state = holds (unstruck given) priors 0; buffer = [] })
       (record {
         answer = cond in-the-end (settled (end .swept)) (going (end .swept));
-        state = holds given (end .mean) (end .swept);
+        state = holds (unstruck given) (end .mean) (end .swept);
         buffer = [];
       })
 
@@ -97,13 +99,13 @@ module _ (given : Bytes) where
 
   -- ---- the two calls
 
-  abbrev pub opening : Outcome Bytes
+  abbrev pub opening : Outcome StruckFile
   opening = openCall theFile empty given
 
-  abbrev sweepingFrom : State Bytes → Outcome Bytes
-  sweepingFrom st = sweepCall figuresOf st 4096
+  abbrev sweepingFrom : State StruckFile → Outcome StruckFile
+  sweepingFrom st = sweepCall figuresLeft st 4096
 
-  abbrev pub sweeping : Outcome Bytes
+  abbrev pub sweeping : Outcome StruckFile
   sweeping = sweepingFrom (opening .state)
 
   pub long-text : 2807 ≤ length given → (show : Show) → programText show given ≡ refusalLine 1 0
@@ -126,7 +128,7 @@ module _ (given : Bytes) where
     unfolding openCall sweepCall sweepText
     swept-ends e = by-check (fileCheck given) refl e (λ show. by-open show e)
       where
-        opens : Check → Outcome Bytes
+        opens : Check → Outcome StruckFile
         opens c = openUnless theFile c given
 
         by-check : (c : Check) → fileCheck given ≡ c → opened ≡ opens c .answer
@@ -151,7 +153,7 @@ module _ (given : Bytes) where
 
       by-check : length given < 2807 → (c : Check) → fileCheck given ≡ c → Ending
       by-check short clear e =
-          record { state = mapState figuresOf (sweeping .state); answer = sweeping .answer; ends = swept-ends short (answered e) }
+          record { state = mapState figuresLeft (sweeping .state); answer = sweeping .answer; ends = swept-ends short (answered e) }
       by-check short (refuses number place) e =
           record { state = empty; answer = refused number place; ends = refused-text short (answered e) }
 

@@ -51,6 +51,12 @@ partOf-psi J j =
     back : (J j : ℕ) → J + 1 + j - (J + 1) ≡ j
     back J j = omega arith
 
+pub part-psi : (J k : ℕ) → J < k → partOf J k ≡ Ψ (k - (J + 1))
+part-psi J k h = ap (partOf J) (sym (behind h)) ∙ partOf-psi J (k - (J + 1))
+  where
+    behind : J < k → J + 1 + (k - (J + 1)) ≡ k
+    behind h = omega arith
+
 -- what holds of every Φ and of every Ψ holds of every part
 pub by-part : (J : ℕ) (P : ℕ → Type 0) → ((j : ℕ) → j ≤ J → P j) → ((j : ℕ) → j < J → P (psiIndex J j)) → (k : ℕ) → k < parts J → P k
 by-part J P phi psi k below = by-side (decLe k J)

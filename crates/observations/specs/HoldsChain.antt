@@ -1,33 +1,29 @@
 -- The chain that arrays of observations hold.
-use Prim.Native.Nat.{ℕ, zero, suc, _+_, _-_, _≤_, _<_}
-use mathlib.Core.Path.{_≡_}
+use Prim.Native.Nat.{ℕ}
+use mathlib.Core.Bool.{cond}
 use mathlib.Core.List.{List}
-use lib.IntN.{ℤ, _-ℤ_}
-use Rattle.definitions.specs.Words.{part}
-use Rattle.definitions.specs.Layout.{psiIndex, cells, rowStart}
+use lib.IntN.{ℤ}
+use Rattle.definitions.specs.Layout.{psiIndex}
 use Rattle.definitions.specs.Observations.{Chain}
-use Rattle.observations.specs.Arrays.{at, meanAt, priorAt, ratioAt}
+use Rattle.definitions.specs.Kept.{paidStepIn, incurredStepIn, lastRatioIn}
+use Rattle.laws.specs.SameChains.{SameChain}
+use Rattle.observations.specs.Arrays.{at, meanAt, priorAt, ratioAt, markAt}
 
--- x_(i,j), z_(i,j) and y_i from the logarithms by cell
-unfoldable pub paidStepIn : List ℤ → ℕ → ℕ → ℕ → ℤ
-paidStepIn ticks J i zero = part ticks (rowStart J i + 0)
-paidStepIn ticks J i (suc j) = part ticks (rowStart J i + suc j) -ℤ part ticks (rowStart J i + j)
+abbrev pub chainAt : ℕ → List ℤ → List ℕ → List ℕ → Chain
+chainAt J ticks weights struck = record {
+  last = J;
+  p = λ i j. cond (markAt struck j i) 0 (at weights j);
+  q = λ i j. cond (markAt struck (psiIndex J j) i) 0 (at weights (psiIndex J j));
+  s = priorAt weights;
+  t = λ j. priorAt weights (psiIndex J j);
+  g = ratioAt weights;
+  x = paidStepIn ticks J;
+  z = incurredStepIn ticks J;
+  y = lastRatioIn ticks J;
+  priorΦ = meanAt ticks;
+  priorΨ = λ j. meanAt ticks (psiIndex J j);
+}
 
-abbrev pub incurredStepIn : List ℤ → ℕ → ℕ → ℕ → ℤ
-incurredStepIn ticks J i j = part ticks (cells J + (rowStart J i + (j + 1))) -ℤ part ticks (cells J + (rowStart J i + j))
-
-abbrev pub lastRatioIn : List ℤ → ℕ → ℕ → ℤ
-lastRatioIn ticks J i = part ticks (cells J + (rowStart J i + (J - i))) -ℤ part ticks (rowStart J i + (J - i))
-
--- every observation of it, with its weight, is there
-pub record HoldsChain (c : Chain) (ticks : List ℤ) (weights : List ℕ) : Type 0 where
-  pub p : (i j : ℕ) → i + j ≤ c .last → c .p i j ≡ at weights j
-  pub q : (i j : ℕ) → i + j < c .last → c .q i j ≡ at weights (psiIndex (c .last) j)
-  pub s : (j : ℕ) → j ≤ c .last → c .s j ≡ priorAt weights j
-  pub t : (j : ℕ) → j < c .last → c .t j ≡ priorAt weights (psiIndex (c .last) j)
-  pub g : (d : ℕ) → d < c .last → c .g d ≡ ratioAt weights d
-  pub x : (i j : ℕ) → i + j ≤ c .last → c .x i j ≡ paidStepIn ticks (c .last) i j
-  pub z : (i j : ℕ) → i + j < c .last → c .z i j ≡ incurredStepIn ticks (c .last) i j
-  pub y : (i : ℕ) → i ≤ c .last → c .y i ≡ lastRatioIn ticks (c .last) i
-  pub priorΦ : (j : ℕ) → j ≤ c .last → c .priorΦ j ≡ meanAt ticks j
-  pub priorΨ : (j : ℕ) → j < c .last → c .priorΨ j ≡ meanAt ticks (psiIndex (c .last) j)
+-- every observation of a chain, with its weight, is there
+abbrev pub HoldsChain : Chain → List ℤ → List ℕ → List ℕ → Type 0
+HoldsChain c ticks weights struck = SameChain c (chainAt (c .last) ticks weights struck)

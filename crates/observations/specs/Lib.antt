@@ -3,6 +3,7 @@
 --   HoldsChain             the chain that they hold
 --   Reading, Ratios, Means the contracts: a file read into them, the weights of the ratios, the prior means as a mean
 --   ReadLaws, RatioLaws    what their loops go by
+--   Strikes, Inside        the contracts of the marks of struck steps, and of what brings a session's numbers inside their limits
 --   OfFile                 an accepted file's arrays: inside their limits, they hold its chain and keep its observations
 pub mod Arrays
 pub mod HoldsChain
@@ -12,3 +13,9 @@ pub mod Ratios
 pub mod RatioLaws
 pub mod Means
 pub mod OfFile
+pub mod Strikes
+pub mod StrikeLaws
+pub mod Inside
+pub mod InsideLaws
+pub mod MarkLaws
+pub mod KeptLaws

@@ -1,6 +1,7 @@
 -- The contracts of reading a file into the arrays.
 use Prim.Native.Nat.{ℕ, _+_, _*_, _≤_, _<_}
 use mathlib.Core.Path.{_≡_}
+use mathlib.Core.Bool.{false}
 use mathlib.Core.List.{List}
 use lib.IntN.{ℤ}
 use lib.ListN.{length}
@@ -9,7 +10,7 @@ use Rattle.definitions.specs.Layout.{Bytes, lastYear, parts, cells, varianceOf,
 use Rattle.definitions.specs.Weight.{weight}
 use Rattle.definitions.specs.Observations.{logOf, ratioVariance}
 use Rattle.layout.specs.Checks.{Whole}
-use Rattle.observations.specs.Arrays.{at, meanAt, priorAt, ratioAt}
+use Rattle.observations.specs.Arrays.{at, meanAt, priorAt, ratioAt, markAt}
 
 -- ---- cells
 
@@ -58,8 +59,9 @@ pub record OfParts (f : Bytes) (ticks : List ℤ) (weights variances : List ℕ)
 pub record Parts (f : Bytes) (ticks : List ℤ) (weights variances : List ℕ) : Type 0 where
   pub all : PartsTo (parts (lastYear f)) f ticks weights variances
 
--- ---- the whole file
+-- ---- the whole file, of which no step is struck
 
-pub record Observes (f : Bytes) (ticks : List ℤ) (weights variances : List ℕ) : Type 0 where
+pub record Observes (f : Bytes) (ticks : List ℤ) (weights variances struck : List ℕ) : Type 0 where
   pub parts-are : Parts f ticks weights variances
   pub ratios-are : (d : ℕ) → d < lastYear f → ratioAt weights d ≡ weight (ratioVariance f d)
+  pub unstruck : (k i : ℕ) → markAt struck k i ≡ false

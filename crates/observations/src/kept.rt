@@ -3,9 +3,8 @@
 ghost use mathlib.Core.Path.{_≡_};
 ghost use Prim.Native.Nat.{_<_, _^_};
 ghost use Rattle.definitions.specs.Words.{part};
-ghost use Rattle.definitions.specs.Sweep.{bringBack};
-ghost use Rattle.observations.specs.Arrays.{at, broughtWithin};
-use arithmetic::limits::brought_back;
+ghost use Rattle.observations.specs.Arrays.{at, broughtWithin, logWithin};
+use crate::inside::logarithm_within;
 use arithmetic::limits::brought_within;
 use scales::Ticks;
 use scales::Variance;
@@ -13,10 +12,10 @@ use scales::Variance;
 // The logarithm of cell c.
 pub fn kept_logarithm(ticks: &[i64; 303], c: usize) -> Ticks
     requires { ⌜ c < 272 ⌝ }
-    ensures { λ r. ⌜ r .0 ≡ bringBack (part (now (ticks .entry)) c) ⌝ }
+    ensures { λ r. ⌜ r .0 ≡ logWithin (part (now (ticks .entry)) c) ⌝ }
 {
     let kept = ticks[c];
-    Ticks(brought_back(kept))
+    Ticks(logarithm_within(kept))
 }
 
 // The variance of part k.

@@ -9,19 +9,21 @@ use Rattle.definitions.specs.Layout.{Bytes, lastYear, closeness, parts, priorMe
 use Rattle.definitions.specs.Refusals.{clear, fileCheck, isClear}
 use Rattle.definitions.specs.Observations.{chainOf}
 use Rattle.definitions.specs.Matrix as D
+use Rattle.definitions.specs.Strikes.{unstruck}
 use Rattle.laws.specs.Accepted.{AcceptedFile, accepted-file}
 use Rattle.laws.specs.FileChain.{logarithm-limit}
+use Rattle.laws.specs.StruckChain.{admitted}
 use Rattle.laws.specs.FileWeights.{part-to, prior-to, g-to}
 use Rattle.laws.specs.Tables.{tab-cong}
 use Rattle.observations.specs.declared.Observations.{Observations}
 use Rattle.observations.specs.Arrays.{observationsAt}
 use Rattle.observations.specs.Reading.{Observes}
 use Rattle.observations.specs.Means.{OfMeans, PriorMeans}
-use Rattle.observations.specs.OfFile.{holds-chain, kept}
+use Rattle.observations.specs.OfFile.{holds-chain, kept, none-kept}
 use Rattle.chain.specs.declared.arrays.Figures.{Figures}
 use Rattle.chain.specs.Arrays.{figuresAt, figuresOf, meanOf}
 use Rattle.chain.specs.Fitting.{Fitting}
-use Rattle.chain.specs.AcceptedFits.{file-fits}
+use Rattle.chain.specs.AcceptedFits.{admitted-fits}
 use Rattle.figures.specs.Gathered.{OfObservations, FiguresOf}
 use Rattle.holding.specs.State.{Held, Fits}
 use Rattle.opening.specs.declared.OpenAnswer.the-variants.{Opened}
@@ -31,8 +33,8 @@ use Rattle.opening.specs.OpenLaws.{opens-done}
 pub file-accepted : (file : Bytes) → fileCheck file ≡ clear → AcceptedFile file
 file-accepted file passed = accepted-file file (ap isClear passed)
 
-module _ (f : Bytes) (passed : fileCheck f ≡ clear) {ticks : List ℤ} {weights variances : List ℕ}
-    (o : Observes f ticks weights variances) where
+module _ (f : Bytes) (passed : fileCheck f ≡ clear) {ticks : List ℤ} {weights variances struck : List ℕ}
+    (o : Observes f ticks weights variances struck) where
   abbrev J : ℕ
   J = lastYear f
 
@@ -60,7 +62,7 @@ module _ (f : Bytes) (passed : fileCheck f ≡ clear) {ticks : List ℤ} {weight
 
   -- ---- what is held afterwards
 
-  module _ {own : List ℕ} {A b mean : List ℤ} (made : FiguresOf ticks weights J own A b) (priors : PriorMeans ticks J mean) where
+  module _ {own : List ℕ} {A b mean : List ℤ} (made : FiguresOf ticks weights struck J own A b) (priors : PriorMeans ticks J mean) where
     abbrev F : Figures
     F = figuresAt J (closeness f) own A b
 
@@ -76,7 +78,7 @@ module _ (f : Bytes) (passed : fileCheck f ≡ clear) {ticks : List ℤ} {weight
     after-fits : Fits after
     after-fits = record {
       holding = known .years .from;
-      fitting = subst Fitting (sym same) (file-fits f known);
+      fitting = subst Fitting (sym same) (admitted-fits (unstruck f) (admitted f (ap isClear passed)));
       inside = record { small = λ k below. rw (part-is k below) (known .prior-means k below) };
       few = omega arith;
     }
@@ -84,6 +86,7 @@ module _ (f : Bytes) (passed : fileCheck f ≡ clear) {ticks : List ℤ} {weight
     mean-is : meanOf J mean ≡ tabFrom 0 (parts J) (priorMean f)
     mean-is = tab-cong 0 (parts J) (λ k from below. part-is k (omega arith))
 
-    pub done : (s : Held) (before : Observations) → ¬ Fits s → Opens s before f Opened after (observationsAt ticks weights variances)
+    pub done : (s : Held) (before : Observations) → ¬ Fits s → Opens s before f Opened after (observationsAt ticks weights variances struck)
     done s before closed =
-        opens-done s before f closed passed after (observationsAt ticks weights variances) after-fits same (kept f known o) mean-is refl
+        opens-done s before f closed passed after (observationsAt ticks weights variances struck) after-fits same
+        (kept f known o) (none-kept f known o) mean-is refl

@@ -1,15 +1,16 @@
 -- The machine's outcome of an open, case by case: what the call shows of its answer.
 use Prim.Native.Nat.{ℕ}
 use mathlib.Core.Path.{_≡_, refl}
+use mathlib.Core.Bool.{false}
 use native.Mathlib.Omega.{arith}
 use Rattle.definitions.specs.Words.{tabFrom}
 use Rattle.definitions.specs.Layout.{Bytes, lastYear, parts, priorMean}
 use Rattle.definitions.specs.Refusals.{clear, refuses, fileCheck}
 use Rattle.definitions.specs.Matrix as D
 use Rattle.definitions.specs.Machine.{openCall}
-use Rattle.definitions.specs.Kept.{observedOf}
+use Rattle.definitions.specs.Kept.{observedOf, marksOf}
 use Rattle.observations.specs.declared.Observations.{Observations}
-use Rattle.observations.specs.Arrays.{observedIn}
+use Rattle.observations.specs.Arrays.{observedIn, struckIn}
 use Rattle.chain.specs.Arrays.{figuresOf, meanOf}
 use Rattle.holding.specs.State.{Held, Fits}
 use Rattle.holding.specs.StateLaws.{stateOf-held, stateOf-empty}
@@ -40,11 +41,12 @@ module _ (s : Held) (o : Observations) (file : Bytes) where
 
   pub opens-done : ¬ Fits s → fileCheck file ≡ clear → (t : Held) (p : Observations) → Fits t
       → figuresOf (t .figures) ≡ D.figuresOf file → observedIn (lastYear file) p ≡ observedOf file
+      → struckIn (lastYear file) p ≡ marksOf (lastYear file) (λ s. false)
       → meanOf (t .figures .last) (t .mean) ≡ tabFrom 0 (parts (lastYear file)) (priorMean file) → t .total ≡ 0
       → Opens s o file Opened t p
   unfolding openCall D.figuresFrom
-  opens-done h c t p fits figures observed mean total = let e = stateOf-empty s h in record {
+  opens-done h c t p fits figures observed struck mean total = let e = stateOf-empty s h in record {
     answer = rw (e, c) refl;
-    state = rw (e, c, stateOf-held t fits, figures, observed, mean, total) refl;
+    state = rw (e, c, stateOf-held t fits, figures, observed, struck, mean, total) refl;
     same = λ number place refused. absurd (opened-refused refused);
   }

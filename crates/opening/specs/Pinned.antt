@@ -5,8 +5,10 @@ use native.Mathlib.Omega.{arith}
 use Rattle.definitions.specs.Words.{tabFrom}
 use Rattle.definitions.specs.Layout.{Bytes, lastYear, parts, priorMean}
 use Rattle.definitions.specs.Refusals.{Check, clear, refuses, fileCheck, isClear}
+use Rattle.definitions.specs.Strikes.{unstruck}
 use Rattle.definitions.specs.Machine.{Answer, opened, refused, empty, holds, mapState, Outcome, openUnless, openCall}
 use Rattle.definitions.specs.Kept.{Kept, keptOf, inSession}
+use Rattle.laws.specs.StruckChain.{admitted}
 use Rattle.laws.specs.Number16.{openWith16, alike-without-16}
 use Rattle.observations.specs.declared.Observations.{Observations}
 use Rattle.holding.specs.State.{Held, stateOf, keptWith, sessionState, HoldsFile}
@@ -40,12 +42,12 @@ module _ (s t : Held) (o p : Observations) (f : Bytes) (none : stateOf s ≡ emp
       by-check clear e a st = (e, st)
       by-check (refuses number place) e a st = absurd (opened-refused a)
 
-  pub opened-keeps : sessionState p t ≡ holds (keptOf f) (tabFrom 0 (parts (lastYear f)) (priorMean f)) 0
+  pub opened-keeps : sessionState p t ≡ holds (keptOf (unstruck f)) (tabFrom 0 (parts (lastYear f)) (priorMean f)) 0
   opened-keeps = opened-to .1
 
-  pub opened-holds : HoldsFile t f (tabFrom 0 (parts (lastYear f)) (priorMean f)) 0
+  pub opened-holds : HoldsFile t (unstruck f) (tabFrom 0 (parts (lastYear f)) (priorMean f)) 0
   opened-holds = record {
-    file = ap isClear (opened-to .0);
+    file = admitted f (ap isClear (opened-to .0));
     state = sym (held-of-session p t) ∙ ap (mapState (λ x. x .figures)) opened-keeps;
   }
 

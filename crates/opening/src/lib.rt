@@ -1,5 +1,5 @@
 // The call `open`, over a session whose arrays are lent: the observations of the file, the figures that are made of them and the prior
-// means are held from then on.
+// means are held from then on. No step is struck.
 ghost use Rattle.holding.specs.State.{heldIn};
 ghost use Rattle.observations.specs.Arrays.{observationsAt};
 ghost use Rattle.opening.specs.Opens.{Opens};
@@ -18,7 +18,7 @@ pub enum OpenAnswer {
     Refused(u64, usize),
 }
 
-// 22, then 1 to 10. `held` has J, the closeness and the sweeps run since open.
+// 22, then 1 to 10. `held` has J, the closeness and the sweeps run since open or the last strike.
 pub fn open_lent<'a>(
     held: &'a mut [u64; 3],
     own: &'a mut [u64; 31],
@@ -28,14 +28,15 @@ pub fn open_lent<'a>(
     ticks: &'a mut [i64; 303],
     weights: &'a mut [u64; 77],
     variances: &'a mut [u64; 31],
+    struck: &'a mut [u8; 496],
     file: &'a [u8],
 ) -> OpenAnswer
     ensures { λ r. ⌜ Opens
         (heldIn (now (held .entry)) (now (own .entry)) (now (matrix .entry)) (now («right_hand» .entry)) (now (mean .entry)))
-        (observationsAt (now (ticks .entry)) (now (weights .entry)) (now (variances .entry)))
+        (observationsAt (now (ticks .entry)) (now (weights .entry)) (now (variances .entry)) (now (struck .entry)))
         (now (file .entry)) r
         (heldIn (now (held .exit)) (now (own .exit)) (now (matrix .exit)) (now («right_hand» .exit)) (now (mean .exit)))
-        (observationsAt (now (ticks .exit)) (now (weights .exit)) (now (variances .exit))) ⌝ }
+        (observationsAt (now (ticks .exit)) (now (weights .exit)) (now (variances .exit)) (now (struck .exit))) ⌝ }
 {
     if is_open(
         held[0] as usize,
@@ -53,8 +54,8 @@ pub fn open_lent<'a>(
         return OpenAnswer::Refused(number, place);
     }
     let last = last_year(file);
-    observe(ticks, weights, variances, file);
-    figures_in(own, matrix, right_hand, ticks, weights, last);
+    observe(ticks, weights, variances, struck, file);
+    figures_in(own, matrix, right_hand, ticks, weights, struck, last);
     start_mean(mean, ticks, last);
     let numbers = [last as u64, closeness_of(file), 0];
     *held = numbers;

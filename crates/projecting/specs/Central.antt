@@ -7,12 +7,11 @@ use Rattle.integers.specs.Sum.{sum, total}
 use Rattle.definitions.specs.Words.{part}
 use Rattle.definitions.specs.Layout.{parts}
 use Rattle.definitions.specs.Refusals.{yearLimit, partLimit}
-use Rattle.definitions.specs.Sweep.{bringBack}
 use Rattle.definitions.specs.Ultimate.{Divided, ultimateOf}
 use Rattle.definitions.specs.Kept.{latestIn}
 use Rattle.scales.specs.declared.Ticks.{Ticks}
 use Rattle.scales.specs.declared.Variance.{Variance}
-use Rattle.observations.specs.Arrays.{at, broughtWithin, observationsAt, observedIn}
+use Rattle.observations.specs.Arrays.{at, broughtWithin, logWithin, observationsAt, observedIn}
 use Rattle.projecting.specs.declared.Ultimate.{Ultimate}
 use Rattle.projecting.specs.declared.central.Side.{Side}
 use Rattle.projecting.specs.Projects.{ofUltimate}
@@ -43,7 +42,7 @@ pub record OfSide (mean : List ℤ) (cell first count : ℕ) : Type 0 where
   pub cell-inside : cell < 272
 
 pub record SideOf (mean ticks : List ℤ) (variances : List ℕ) (cell first count : ℕ) (r : Side) : Type 0 where
-  pub ultimate : r .ultimate .0 ≡ bringBack (part ticks cell) +ℤ partsFrom mean first count
+  pub ultimate : r .ultimate .0 ≡ logWithin (part ticks cell) +ℤ partsFrom mean first count
   pub variance : r .variance .0 ≡ variancesFrom variances first count
 
 -- ---- both sides
@@ -69,7 +68,7 @@ pub record OfYear (last : ℕ) (mean : List ℤ) (year : ℕ) : Type 0 where
   pub to : year ≤ last
   pub small : (k : ℕ) → k < parts last → natAbs (part mean k) ≤ partLimit
 
--- whatever weights are kept beside them
+-- whatever weights and marks are kept beside them
 pub record CentralOf (last : ℕ) (mean ticks : List ℤ) (variances : List ℕ) (year : ℕ) (r : Ultimate) : Type 0 where
-  pub is : (weights : List ℕ)
-      → ofUltimate r ≡ ultimateOf last (latestIn last (observedIn last (observationsAt ticks weights variances))) year (part mean)
+  pub is : (weights struck : List ℕ)
+      → ofUltimate r ≡ ultimateOf last (latestIn last (observedIn last (observationsAt ticks weights variances struck))) year (part mean)

@@ -8,20 +8,19 @@ use Rattle.integers.specs.Size.{natAbs-+, natAbs-*-≤}
 use Rattle.integers.specs.Sum.{sum-cong}
 use Rattle.integers.specs.Total.{total-cong, total-bound, total-term, sum-size}
 use Rattle.definitions.specs.Words.{part}
-use Rattle.definitions.specs.Layout.{parts, psiIndex, cells, rowStart}
+use Rattle.definitions.specs.Layout.{psiIndex, cells, rowStart}
 use Rattle.definitions.specs.Refusals.{partLimit}
-use Rattle.definitions.specs.Sweep.{bringBack}
 use Rattle.definitions.specs.Ultimate.{Latest, paidVariance, incurredVariance, paidUltimate, incurredUltimate, bothVariances, ultimateOf}
 use Rattle.definitions.specs.Kept.{latestIn}
 use Rattle.laws.specs.Cells.{cell-below, cells-few}
-use Rattle.laws.specs.StepLaws.{bringBack-inside}
-use Rattle.laws.specs.Tables.{tab-at}
+use Rattle.observations.specs.InsideLaws.{log-small}
+use Rattle.observations.specs.KeptLaws.{log-at, variance-at}
 use Rattle.laws.specs.Ultimates.{ultimate-unique}
 use Rattle.arithmetic.specs.declared.wide.Wide.{Wide}
 use Rattle.arithmetic.specs.Wide.{IsWide, OfSum, OfDivision, valueOf}
 use Rattle.arithmetic.specs.WideLaws.{high-at-most}
 use Rattle.observations.specs.declared.Observations.{Observations}
-use Rattle.observations.specs.Arrays.{at, broughtWithin, observationsAt, observedIn}
+use Rattle.observations.specs.Arrays.{at, broughtWithin, logWithin, observationsAt, observedIn}
 use Rattle.projecting.specs.declared.Ultimate.{Ultimate}
 use Rattle.projecting.specs.declared.central.Side.{Side}
 use Rattle.projecting.specs.Central.{OfRun, partsFrom, variancesFrom, OfSide, SideOf, OfSides, Weighted, OfYear, CentralOf}
@@ -44,12 +43,12 @@ variances-some variances first n some =
 -- ---- one side
 
 pub side-small : (z : ℤ) {mean : List ℤ} {cell first count : ℕ} → OfSide mean cell first count
-    → natAbs (bringBack z +ℤ partsFrom mean first count) ≤ 2 ^ 30
+    → natAbs (logWithin z +ℤ partsFrom mean first count) ≤ 2 ^ 30
 side-small z {mean} {cell} {first} {count} h =
     omega (
       arith,
-      natAbs-+ (bringBack z) (partsFrom mean first count),
-      bringBack-inside z,
+      natAbs-+ (logWithin z) (partsFrom mean first count),
+      log-small z,
       parts-small (h .run) count (omega arith),
       h .run .few,
     )
@@ -112,14 +111,6 @@ module _ {paid incurred : Side} (h : OfSides paid incurred) where
 -- ---- what a session keeps
 
 module _ (J : ℕ) (o : Observations) where
-  variance-at : (n : ℕ) → n < parts J → at (observedIn J o .variances) n ≡ broughtWithin (2 ^ 18) (2 ^ 40) (at (o .variances) n)
-  unfolding observedIn
-  variance-at n below = tab-at (parts J) (λ k. broughtWithin (2 ^ 18) (2 ^ 40) (at (o .variances) k)) n 0 below
-
-  logarithm-at : (c : ℕ) → c < 2 * cells J → part (observedIn J o .logarithms) c ≡ bringBack (part (o .ticks) c)
-  unfolding observedIn
-  logarithm-at c below = tab-at (2 * cells J) (λ c. bringBack (part (o .ticks) c)) c (pos 0) below
-
   -- whatever its arrays hold, some variance is to come
   pub divisor-some : (year : ℕ) → 1 ≤ year → year ≤ J → 0 < bothVariances J (latestIn J (observedIn J o)) year
   unfolding paidVariance
@@ -127,7 +118,7 @@ module _ (J : ℕ) (o : Observations) where
       omega (
         arith,
         total-term year 0 (λ m. at (observedIn J o .variances) (J - year + 1 + m)) from,
-        variance-at (J - year + 1 + 0) (omega arith),
+        variance-at J o (J - year + 1 + 0) (omega arith),
       )
 
 -- ---- of an accident year
@@ -173,9 +164,9 @@ module _ {J : ℕ} {mean : List ℤ} {year : ℕ} (h : OfYear J mean year) where
       incurred-variance = omega (arith, i .variance, variances-small variances (J + 1 + k) year, h .few, h .to);
     }
 
-    module _ (weights : List ℕ) where
+    module _ (weights struck : List ℕ) where
       abbrev o : Observations
-      o = observationsAt ticks weights variances
+      o = observationsAt ticks weights variances struck
 
       abbrev a : Latest
       a = latestIn J (observedIn J o)
@@ -195,12 +186,12 @@ module _ {J : ℕ} {mean : List ℤ} {year : ℕ} (h : OfYear J mean year) where
 
       paid-ultimate-is : paid .ultimate .0 ≡ paidUltimate J a year (part mean)
       unfolding paidUltimate
-      paid-ultimate-is = p .ultimate ∙ ap (λ z. z +ℤ partsFrom mean (k + 1) year) (sym (logarithm-at J o cell (omega (arith, cell-there))))
+      paid-ultimate-is = p .ultimate ∙ ap (λ z. z +ℤ partsFrom mean (k + 1) year) (sym (log-at J o cell (omega (arith, cell-there))))
 
       incurred-ultimate-is : incurred .ultimate .0 ≡ incurredUltimate J a year (part mean)
       unfolding incurredUltimate
       incurred-ultimate-is = i .ultimate ∙ ap₂ _+ℤ_
-          (sym (logarithm-at J o (cells J + cell) (omega (arith, cell-there))))
+          (sym (log-at J o (cells J + cell) (omega (arith, cell-there))))
           (sum-cong year (λ n below. ap (part mean) (further n)))
 
       pub central-is : {r : Ultimate} → Weighted paid incurred r → ofUltimate r ≡ ultimateOf J a year (part mean)
@@ -218,4 +209,4 @@ module _ {J : ℕ} {mean : List ℤ} {year : ℕ} (h : OfYear J mean year) where
           })
 
     pub central-of : {r : Ultimate} → Weighted paid incurred r → CentralOf J mean ticks variances year r
-    central-of w = record { is = λ weights. central-is weights w }
+    central-of w = record { is = λ weights struck. central-is weights struck w }

@@ -5,8 +5,9 @@ use mathlib.Core.Path.{_≡_, refl}
 use mathlib.Core.List.{List}
 use lib.IntN.{ℤ, pos, _+ℤ_, _*ℤ_}
 use Rattle.definitions.specs.Words.{part}
-use Rattle.definitions.specs.Layout.{Bytes, closeness}
+use Rattle.definitions.specs.Layout.{closeness}
 use Rattle.definitions.specs.Matrix.{Figures}
+use Rattle.definitions.specs.Strikes.{StruckFile}
 use Rattle.definitions.specs.Ultimate.{numerator, bothVariances}
 use Rattle.definitions.specs.Machine.{holds}
 use Rattle.laws.specs.Pinned.{Worth, worth}
@@ -23,5 +24,6 @@ module _ (o : Observations) (s : Held) (year : ℕ) (u : Ultimate) (call : Proje
       × (u .divisor ≡ bothVariances (F .last) (latestWith o F) year)
   ultimate-exact F μ count some = let h = call .exact F μ count some u refl in (h .0 .whole, h .0 .below, h .1)
 
-  pub ultimate-worth : (f : Bytes) (μ : List ℤ) (count : ℕ) → HoldsFile s f μ count → {e : ℕ} → closeness f ≡ e → Worth f e (part μ)
+  pub ultimate-worth : (f : StruckFile) (μ : List ℤ) (count : ℕ) → HoldsFile s f μ count
+      → {e : ℕ} → closeness (f .file) ≡ e → Worth f e (part μ)
   ultimate-worth f μ count open-file close = worth f close (call .worth f μ count open-file u refl)

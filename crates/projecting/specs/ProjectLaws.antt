@@ -10,6 +10,7 @@ use Rattle.definitions.specs.Words.{within, part}
 use Rattle.definitions.specs.Layout.{parts}
 use Rattle.definitions.specs.Matrix as D
 use Rattle.definitions.specs.Matrix.{passes}
+use Rattle.definitions.specs.Strikes.{figuresLeft}
 use Rattle.definitions.specs.Ultimate as U
 use Rattle.definitions.specs.Ultimate.{ultimateOf}
 use Rattle.definitions.specs.Machine.{refused, ultimate-is, holds, ultimateCall}
@@ -66,7 +67,7 @@ module _ (o : Observations) (s : Held) (year : ℕ) where
         (divisor-some (F .last) o year (found .year-there .from) (found .year-there .to)) in
         (rw (found .is) divided, ap (λ v. v .divisor) (found .is) ∙ ultimate-divisor (F .last) (latestWith o F) year (part μ));
     worth = λ f μ total open-file u told.
-        worth open-file μ (answered o (D.figuresOf f) μ total year (ofUltimate u) (told-by (open-file .state) told) .passing);
+        worth open-file μ (answered o (figuresLeft f) μ total year (ofUltimate u) (told-by (open-file .state) told) .passing);
   }
     where
       told-by : {F : D.Figures} {μ : List ℤ} {total : ℕ} {u : Ultimate} → stateOf s ≡ holds F μ total → r ≡ Central u

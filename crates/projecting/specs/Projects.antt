@@ -5,9 +5,9 @@ use mathlib.Core.Path.{_≡_}
 use mathlib.Core.List.{List}
 use lib.IntN.{ℤ}
 use Rattle.definitions.specs.Words.{part}
-use Rattle.definitions.specs.Layout.{Bytes, closeness}
-use Rattle.definitions.specs.Observations.{chainOf}
+use Rattle.definitions.specs.Layout.{closeness}
 use Rattle.definitions.specs.Matrix.{Figures}
+use Rattle.definitions.specs.Strikes.{StruckFile, chainLeft}
 use Rattle.definitions.specs.Ultimate as D
 use Rattle.definitions.specs.Ultimate.{Latest, Divided, numerator, bothVariances}
 use Rattle.definitions.specs.Machine as M
@@ -43,9 +43,9 @@ pub record Projects (o : Observations) (s : Held) (year : ℕ) (r : UltimateAnsw
       → Divided (numerator (F .last) (latestWith o F) year (part μ)) (ofUltimate u)
       × (u .divisor ≡ bothVariances (F .last) (latestWith o F) year)
   -- the mean that it is taken from
-  pub worth : (f : Bytes) (μ : List ℤ) (count : ℕ) → HoldsFile s f μ count → (u : Ultimate) → r ≡ Central u
-      → Guarantee (chainOf f) (closeness f) (part μ)
+  pub worth : (f : StruckFile) (μ : List ℤ) (count : ℕ) → HoldsFile s f μ count → (u : Ultimate) → r ≡ Central u
+      → Guarantee (chainLeft f) (closeness (f .file)) (part μ)
 
--- of lent arrays, whatever weights the session keeps beside them
+-- of lent arrays, whatever weights and marks the session keeps beside them
 abbrev pub ProjectsLent : List ℤ → List ℕ → Held → ℕ → UltimateAnswer → Type 0
-ProjectsLent ticks variances s year r = (weights : List ℕ) → Projects (observationsAt ticks weights variances) s year r
+ProjectsLent ticks variances s year r = (weights struck : List ℕ) → Projects (observationsAt ticks weights variances struck) s year r

@@ -6,6 +6,7 @@ pub use projecting::Ultimate;
 pub use projecting::UltimateAnswer;
 pub use showing::FiguresAnswer;
 pub use showing::Showing;
+pub use striking::StrikeAnswer;
 pub use sweeping::SweepAnswer;
 pub use writing::WriteAnswer;
 
@@ -17,5 +18,10 @@ pub struct Opening {
 
 pub struct Sweeping {
     pub answer: SweepAnswer,
+    pub session: Session,
+}
+
+pub struct Striking {
+    pub answer: StrikeAnswer,
     pub session: Session,
 }

@@ -1,6 +1,7 @@
 // The calls over a session that is a value.
 ghost use mathlib.Core.Path.{_≡_};
 ghost use Rattle.definitions.specs.Machine.{State};
+ghost use Rattle.definitions.specs.Strikes.{step};
 ghost use Rattle.holding.specs.State.{stateOf};
 ghost use Rattle.opening.specs.Opens.{Opens};
 ghost use Rattle.judging.specs.Judges.{Judges};
@@ -8,11 +9,13 @@ ghost use Rattle.sweeping.specs.Sweeps.{Sweeps};
 ghost use Rattle.writing.specs.Writes.{Reads, Pages};
 ghost use Rattle.showing.specs.Shows.{Shows};
 ghost use Rattle.projecting.specs.Projects.{Projects};
+ghost use Rattle.striking.specs.Strikes.{Strikes};
 ghost use Rattle.session.specs.Value.{heldBy};
 use crate::Session;
 use crate::answers::JudgeAnswer;
 use crate::answers::Opening;
 use crate::answers::Showing;
+use crate::answers::Striking;
 use crate::answers::Sweeping;
 use crate::answers::UltimateAnswer;
 use crate::answers::WriteAnswer;
@@ -21,6 +24,7 @@ use crate::lent::judge_lent;
 use crate::lent::open_lent;
 use crate::lent::page_lent;
 use crate::lent::read_lent;
+use crate::lent::strike_lent;
 use crate::lent::sweep_lent;
 use crate::lent::ultimate_lent;
 use crate::state::empty;
@@ -39,6 +43,7 @@ pub fn open(s: Session, file: &[u8]) -> Opening
     let mut ticks = s.observations.ticks;
     let mut weights = s.observations.weights;
     let mut variances = s.observations.variances;
+    let mut struck = s.observations.struck;
     let answer = open_lent(
         &mut held,
         &mut own,
@@ -48,6 +53,7 @@ pub fn open(s: Session, file: &[u8]) -> Opening
         &mut ticks,
         &mut weights,
         &mut variances,
+        &mut struck,
         file,
     );
     Opening {
@@ -57,6 +63,7 @@ pub fn open(s: Session, file: &[u8]) -> Opening
                 ticks: ticks,
                 weights: weights,
                 variances: variances,
+                struck: struck,
             },
             figures: Figures {
                 last: held[0] as usize,
@@ -166,6 +173,55 @@ pub fn ultimate(s: Session, year: u64) -> UltimateAnswer
         &s.observations.variances,
         year,
     )
+}
+
+// 21, then 14, 26, 27. The step of an accident year and a column is out of the paid (channel 0) or the incurred steps (1).
+pub fn strike(s: Session, channel: u64, year: u64, column: u64) -> Striking
+    ensures { λ r. ⌜ Strikes (step channel year column) (heldBy s) (s .observations) (r .answer)
+        (heldBy (r .session)) (r .session .observations) ⌝ }
+{
+    let mut held = [s.figures.last as u64, s.figures.closeness, s.total];
+    let mut own = s.figures.own;
+    let mut matrix = s.figures.matrix;
+    let mut right_hand = s.figures.right_hand;
+    let mut mean = s.mean;
+    let mut ticks = s.observations.ticks;
+    let mut weights = s.observations.weights;
+    let variances = s.observations.variances;
+    let mut struck = s.observations.struck;
+    let answer = strike_lent(
+        &mut held,
+        &mut own,
+        &mut matrix,
+        &mut right_hand,
+        &mut mean,
+        &mut ticks,
+        &mut weights,
+        &mut struck,
+        channel,
+        year,
+        column,
+    );
+    Striking {
+        answer: answer,
+        session: Session {
+            observations: Observations {
+                ticks: ticks,
+                weights: weights,
+                variances: variances,
+                struck: struck,
+            },
+            figures: Figures {
+                last: held[0] as usize,
+                closeness: held[1],
+                own: own,
+                matrix: matrix,
+                right_hand: right_hand,
+            },
+            mean: mean,
+            total: held[2],
+        },
+    }
 }
 
 // 21. The figures that judge and sweep go by, the matrix whole.

@@ -10,7 +10,8 @@ pub mod calls;
 pub mod lent;
 pub mod state;
 
-// Nothing (J = 0), or the observations of an accepted file, the figures that are made of them, the mean and the sweeps run since open.
+// Nothing (J = 0), or the observations of an accepted file with its struck steps, the figures that are made of them, the mean and the
+// sweeps run since open or the last strike.
 pub struct Session {
     observations: Observations,
     figures: Figures,

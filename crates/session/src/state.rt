@@ -22,6 +22,7 @@ pub fn empty() -> Session
         ticks: [0; 303],
         weights: [0; 77],
         variances: [0; 31],
+        struck: [0; 496],
     };
     Session {
         observations: observations,

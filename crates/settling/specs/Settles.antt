@@ -7,6 +7,7 @@ use lib.IntN.{ℤ}
 use lib.ListN.{length, drop}
 use Rattle.definitions.specs.Layout.{Bytes, lastYear}
 use Rattle.definitions.specs.Matrix.{figuresFrom, figuresOf}
+use Rattle.definitions.specs.Strikes.{StruckFile, figuresLeft}
 use Rattle.definitions.specs.Programs.{Show, programText, refusalLine, spentLine}
 use Rattle.definitions.specs.Machine.{opened, refused, open-file, State, empty, holds, mapState, openCall, sweepCall, writeCall, outcome, theFile}
 use Rattle.definitions.specs.Kept.{keptOf, inSession}
@@ -32,15 +33,15 @@ module _ (given : Bytes) where
   unfolding outcome
   opens-as-file = outcome-alike theFile inSession keptOf session-alike empty (open-file given)
 
-  pub swept-as-file : sweepCall (λ F. F) (mapState figuresOf (opening given .state)) 4096 ≡ mapOutcome figuresOf (sweeping given)
-  swept-as-file = sweep-alike figuresOf figuresOf (λ F. F) (λ f. refl) (opening given .state) 4096
+  pub swept-as-file : sweepCall (λ F. F) (mapState figuresLeft (opening given .state)) 4096 ≡ mapOutcome figuresLeft (sweeping given)
+  swept-as-file = sweep-alike figuresLeft figuresLeft (λ F. F) (λ f. refl) (opening given .state) 4096
 
 -- what is held are the figures of what is kept
-pub held-figures : (o : Observations) (s : Held) (st : State Bytes) → sessionState o s ≡ mapState keptOf st
-    → stateOf s ≡ mapState figuresOf st
+pub held-figures : (o : Observations) (s : Held) (st : State StruckFile) → sessionState o s ≡ mapState keptOf st
+    → stateOf s ≡ mapState figuresLeft st
 held-figures o s st e = sym (held-of-session o s) ∙ ap (mapState (λ x. x .figures)) e ∙ of-file st
   where
-    of-file : (st : State Bytes) → mapState (λ x. x .figures) (mapState keptOf st) ≡ mapState figuresOf st
+    of-file : (st : State StruckFile) → mapState (λ x. x .figures) (mapState keptOf st) ≡ mapState figuresLeft st
     of-file empty = refl
     of-file (holds f μ total) = refl
 
@@ -59,7 +60,7 @@ module _ (given : Bytes) (r : Sweeping) where
       told same = subst (λ a. Ends given (stateOf (heldBy (r .session))) (ofSweep a)) same e
 
   pub settles-swept : length given < 2807 → opened ≡ opening given .answer
-      → ofSweep (r .answer) ≡ sweeping given .answer → stateOf (heldBy (r .session)) ≡ mapState figuresOf (sweeping given .state)
+      → ofSweep (r .answer) ≡ sweeping given .answer → stateOf (heldBy (r .session)) ≡ mapState figuresLeft (sweeping given .state)
       → Settles given r
   settles-swept short taken answer state = settles-by (rw (answer, state) (swept-ends given short taken))
 

@@ -5,9 +5,9 @@ use mathlib.Core.List.{List}
 use lib.IntN.{ℤ, pos}
 use lib.ListN.{getD, replicate}
 use Rattle.definitions.specs.Words.{part}
-use Rattle.definitions.specs.Layout.{Bytes, lastYear, closeness}
-use Rattle.definitions.specs.Observations.{chainOf}
+use Rattle.definitions.specs.Layout.{lastYear, closeness}
 use Rattle.definitions.specs.Matrix.{Figures, entry, own, matrix, rightHand}
+use Rattle.definitions.specs.Strikes.{StruckFile, chainLeft}
 use Rattle.definitions.specs.Machine.{empty, holds}
 use Rattle.laws.specs.Tables.{tab-at}
 use Rattle.chain.specs.Arrays.{figuresAt}
@@ -45,16 +45,16 @@ module _ (s : Held) (r : Showing) (call : Shows s r) where
     shown-right-hand k below = ap (λ x. part (x .figures .«right_hand») k) e ∙ tab-at 31 (part (F .rightHand)) k (pos 0) below
 
   -- of the file that is open, whatever its J
-  module _ (f : Bytes) (μ : List ℤ) (count : ℕ) (open-file : HoldsFile s f μ count) where
-    pub numbers-of-file : (r .answer ≡ Shown) × (r .figures .last ≡ lastYear f) × (r .figures .closeness ≡ closeness f)
+  module _ (f : StruckFile) (μ : List ℤ) (count : ℕ) (open-file : HoldsFile s f μ count) where
+    pub numbers-of-file : (r .answer ≡ Shown) × (r .figures .last ≡ lastYear (f .file)) × (r .figures .closeness ≡ closeness (f .file))
     numbers-of-file = let h = call .of-file f μ count open-file in (h .0, h .1 .last, h .1 .close)
 
-    pub own-of-file : (k : ℕ) → k < 2 * lastYear f + 1 → getD (r .figures .own) k 0 ≡ own (chainOf f) k
+    pub own-of-file : (k : ℕ) → k < 2 * lastYear (f .file) + 1 → getD (r .figures .own) k 0 ≡ own (chainLeft f) k
     own-of-file = call .of-file f μ count open-file .1 .own
 
-    pub entry-of-file : (k l : ℕ) → k < 2 * lastYear f + 1 → l < 2 * lastYear f + 1
-        → part (r .figures .matrix) (31 * k + l) ≡ matrix (chainOf f) k l
+    pub entry-of-file : (k l : ℕ) → k < 2 * lastYear (f .file) + 1 → l < 2 * lastYear (f .file) + 1
+        → part (r .figures .matrix) (31 * k + l) ≡ matrix (chainLeft f) k l
     entry-of-file = call .of-file f μ count open-file .1 .matrix
 
-    pub right-hand-of-file : (k : ℕ) → k < 2 * lastYear f + 1 → part (r .figures .«right_hand») k ≡ rightHand (chainOf f) k
+    pub right-hand-of-file : (k : ℕ) → k < 2 * lastYear (f .file) + 1 → part (r .figures .«right_hand») k ≡ rightHand (chainLeft f) k
     right-hand-of-file = call .of-file f μ count open-file .1 .right-hand

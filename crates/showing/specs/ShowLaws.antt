@@ -1,17 +1,16 @@
 -- What is shown of a session, case by case. Each carries that the figures of an open file are the file's.
 use Prim.Native.Nat.{ℕ, _+_, _*_, _/_, _%_, _≤_, _<_}
 use mathlib.Core.Path.{_≡_, refl, sym, ap, ap₂, subst, _∙_}
-use mathlib.Core.Bool.{true}
 use mathlib.Core.List.{List, []}
 use native.Mathlib.Omega.{arith}
 use lib.IntN.{ℤ, pos}
 use lib.ListN.{getD}
 use Rattle.definitions.specs.Words.{tabFrom, part}
-use Rattle.definitions.specs.Layout.{Bytes, lastYear, parts}
-use Rattle.definitions.specs.Refusals.{yearLimit, accepted}
-use Rattle.definitions.specs.Observations.{chainOf}
+use Rattle.definitions.specs.Layout.{lastYear, parts}
+use Rattle.definitions.specs.Refusals.{yearLimit}
 use Rattle.definitions.specs.Matrix as D
 use Rattle.definitions.specs.Matrix.{entry}
+use Rattle.definitions.specs.Strikes.{StruckFile, Admitted, chainLeft, figuresLeft}
 use Rattle.laws.specs.Accepted.{accepted-file}
 use Rattle.laws.specs.Tables.{tab-at}
 use Rattle.chain.specs.Arrays.{figuresAt, figuresOf}
@@ -33,24 +32,24 @@ entry-at F k l k-below l-below =
     column k l h = omega arith
 
 -- the arrays of a file's figures
-module _ (f : Bytes) (few : lastYear f ≤ yearLimit) where
+module _ (f : StruckFile) (few : lastYear (f .file) ≤ yearLimit) where
   abbrev n : ℕ
-  n = parts (lastYear f)
+  n = parts (lastYear (f .file))
 
-  of-file : FiguresOf f (inArrays (D.figuresOf f))
+  of-file : FiguresOf f (inArrays (figuresLeft f))
   unfolding D.figuresFrom
   of-file = record {
     last = refl;
     close = refl;
     own = λ k below.
-        tab-at 31 (λ i. getD (tabFrom 0 n (D.own (chainOf f))) i 0) k 0 (omega arith) ∙ tab-at n (D.own (chainOf f)) k 0 below;
+        tab-at 31 (λ i. getD (tabFrom 0 n (D.own (chainLeft f))) i 0) k 0 (omega arith) ∙ tab-at n (D.own (chainLeft f)) k 0 below;
     matrix = λ k l k-below l-below.
-        entry-at (D.figuresOf f) k l (omega arith) (omega arith)
-        ∙ ap (λ r. part r l) (tab-at n (λ i. tabFrom 0 n (D.matrix (chainOf f) i)) k [] k-below)
-        ∙ tab-at n (D.matrix (chainOf f) k) l (pos 0) l-below;
+        entry-at (figuresLeft f) k l (omega arith) (omega arith)
+        ∙ ap (λ r. part r l) (tab-at n (λ i. tabFrom 0 n (D.matrix (chainLeft f) i)) k [] k-below)
+        ∙ tab-at n (D.matrix (chainLeft f) k) l (pos 0) l-below;
     right-hand = λ k below.
-        tab-at 31 (part (tabFrom 0 n (D.rightHand (chainOf f)))) k (pos 0) (omega arith)
-        ∙ tab-at n (D.rightHand (chainOf f)) k (pos 0) below;
+        tab-at 31 (part (tabFrom 0 n (D.rightHand (chainLeft f)))) k (pos 0) (omega arith)
+        ∙ tab-at n (D.rightHand (chainLeft f)) k (pos 0) below;
   }
 
 module _ (s : Held) where
@@ -58,11 +57,11 @@ module _ (s : Held) where
   unfolding showsTo
   shows r e = record { shown = e; of-file = λ f μ total open-file. told f (e ∙ ap showsTo (open-file .state)) (open-file .file) }
     where
-      told : (f : Bytes) → r ≡ record { answer = Shown; figures = inArrays (D.figuresOf f) } → accepted f ≡ true
+      told : (f : StruckFile) → r ≡ record { answer = Shown; figures = inArrays (figuresLeft f) } → Admitted f
           → (r .answer ≡ Shown) × FiguresOf f (r .figures)
       told f is good = (
         ap (λ x. x .answer) is,
-        subst (λ x. FiguresOf f (x .figures)) (sym is) (of-file f (accepted-file f good .years .to)),
+        subst (λ x. FiguresOf f (x .figures)) (sym is) (of-file f (accepted-file (f .file) (good .taken) .years .to)),
       )
 
   -- what the code makes of n parts

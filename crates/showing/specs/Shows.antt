@@ -5,11 +5,11 @@ use mathlib.Core.List.{List}
 use lib.IntN.{ℤ, pos}
 use lib.ListN.{getD, replicate}
 use Rattle.definitions.specs.Words.{part, tabFrom}
-use Rattle.definitions.specs.Layout.{Bytes, lastYear, closeness, parts}
+use Rattle.definitions.specs.Layout.{lastYear, closeness, parts}
 use Rattle.definitions.specs.Matrix as D
 use Rattle.definitions.specs.Matrix.{entry}
+use Rattle.definitions.specs.Strikes.{StruckFile, chainLeft}
 use Rattle.definitions.specs.Machine.{State, empty, holds}
-use Rattle.definitions.specs.Observations.{chainOf}
 use Rattle.chain.specs.declared.arrays.Figures.{Figures}
 use Rattle.holding.specs.State.{Held, stateOf, HoldsFile}
 use Rattle.showing.specs.declared.FiguresAnswer.the-variants.{Shown, Refused}
@@ -39,14 +39,15 @@ showsTo empty = record { answer = Refused 21 0; figures = noFigures }
 showsTo (holds F μ total) = record { answer = Shown; figures = inArrays F }
 
 -- the figures of a file, part by part
-pub record FiguresOf (f : Bytes) (F : Figures) : Type 0 where
-  pub last : F .last ≡ lastYear f
-  pub close : F .closeness ≡ closeness f
-  pub own : (k : ℕ) → k < parts (lastYear f) → getD (F .own) k 0 ≡ D.own (chainOf f) k
-  pub matrix : (k l : ℕ) → k < parts (lastYear f) → l < parts (lastYear f) → part (F .matrix) (31 * k + l) ≡ D.matrix (chainOf f) k l
-  pub right-hand : (k : ℕ) → k < parts (lastYear f) → part (F .«right_hand») k ≡ D.rightHand (chainOf f) k
+pub record FiguresOf (f : StruckFile) (F : Figures) : Type 0 where
+  pub last : F .last ≡ lastYear (f .file)
+  pub close : F .closeness ≡ closeness (f .file)
+  pub own : (k : ℕ) → k < parts (lastYear (f .file)) → getD (F .own) k 0 ≡ D.own (chainLeft f) k
+  pub matrix : (k l : ℕ) → k < parts (lastYear (f .file)) → l < parts (lastYear (f .file))
+      → part (F .matrix) (31 * k + l) ≡ D.matrix (chainLeft f) k l
+  pub right-hand : (k : ℕ) → k < parts (lastYear (f .file)) → part (F .«right_hand») k ≡ D.rightHand (chainLeft f) k
 
 pub record Shows (s : Held) (r : Showing) : Type 0 where
   pub shown : r ≡ showsTo (stateOf s)
   -- the very figures that judge the means of an open file
-  pub of-file : (f : Bytes) (μ : List ℤ) (total : ℕ) → HoldsFile s f μ total → (r .answer ≡ Shown) × FiguresOf f (r .figures)
+  pub of-file : (f : StruckFile) (μ : List ℤ) (total : ℕ) → HoldsFile s f μ total → (r .answer ≡ Shown) × FiguresOf f (r .figures)

@@ -8,7 +8,7 @@ use chain::judge::passes;
 
 const SWEEP_LIMIT: u64 = 4096;
 
-// The working mean after the sweeps of a call, the sweeps run since open, and whether the mean passes.
+// The working mean after the sweeps of a call, the sweeps run since open or the last strike, and whether the mean passes.
 pub struct Swept {
     pub working: Working,
     pub total: u64,

@@ -8,7 +8,7 @@ use Rattle.definitions.specs.Words.{part, within}
 use Rattle.definitions.specs.Matrix as D
 use Rattle.definitions.specs.Matrix.{passes}
 use Rattle.definitions.specs.Sweep.{sweeps, sweepLimit}
-use Rattle.laws.specs.MachineLaws.{sweeps-total}
+use Rattle.laws.specs.ReachedStates.{sweeps-total}
 use Rattle.layout.specs.CheckLaws.{within-yes}
 use Rattle.chain.specs.Arrays.{figuresOf, meanOf}
 use Rattle.chain.specs.Judge.{Passes}

@@ -10,6 +10,7 @@ use lib.IntN.{ℤ}
 use Rattle.definitions.specs.Words.{within, part}
 use Rattle.definitions.specs.Matrix as D
 use Rattle.definitions.specs.Matrix.{passes}
+use Rattle.definitions.specs.Strikes.{figuresLeft}
 use Rattle.definitions.specs.Sweep.{Swept, sweeps, sweepLimit}
 use Rattle.definitions.specs.Machine.{Answer, settled, going, refused, State, holds, Outcome, answers, sweepCall, sweptTo}
 use Rattle.chain.specs.Arrays.{figuresOf, meanOf}
@@ -108,13 +109,13 @@ module _ (s : Held) (n : ℕ) where
     state = st;
     same = same;
     worth = λ f μ ν total after before then told.
-        worth before ν (settled-passes (D.figuresOf f) μ ν total n after
+        worth before ν (settled-passes (figuresLeft f) μ ν total n after
         (ap (λ x. sweepsTo x n .answer) (sym (before .state)) ∙ sym a ∙ ap ofSweep told)
         (ap (λ x. sweepsTo x n .state) (sym (before .state)) ∙ sym st ∙ then .state));
     rounded = λ f μ ν total after before then w near.
         of-settled r
         (a ∙ ap (λ x. sweepsTo x n .answer) (before .state)
-        ∙ passes-settled (D.figuresOf f) μ ν total n after w
+        ∙ passes-settled (figuresLeft f) μ ν total n after w
         (ap (λ x. sweepsTo x n .state) (sym (before .state)) ∙ sym st ∙ then .state) (rounded before ν near));
   }
 

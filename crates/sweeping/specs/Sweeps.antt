@@ -6,9 +6,9 @@ use mathlib.Core.Bool.{true}
 use mathlib.Core.List.{List}
 use lib.IntN.{ℤ}
 use Rattle.definitions.specs.Words.{within, part}
-use Rattle.definitions.specs.Layout.{Bytes, closeness}
-use Rattle.definitions.specs.Observations.{chainOf}
+use Rattle.definitions.specs.Layout.{closeness}
 use Rattle.definitions.specs.Matrix.{Figures}
+use Rattle.definitions.specs.Strikes.{StruckFile, chainLeft}
 use Rattle.definitions.specs.Sweep.{sweepLimit}
 use Rattle.definitions.specs.Machine as M
 use Rattle.definitions.specs.Machine.{Answer, State, Outcome, sweepCall}
@@ -33,8 +33,8 @@ pub record Sweeps (s : Held) (n : ℕ) (r : SweepAnswer) (t : Held) : Type 0 whe
   pub state : stateOf t ≡ sweepsTo (stateOf s) n .state
   pub same : (number place : ℕ) → r ≡ Refused number place → t ≡ s
   -- the mean that is held after it
-  pub worth : (f : Bytes) (μ ν : List ℤ) (total after : ℕ) → HoldsFile s f μ total → HoldsFile t f ν after
-      → r ≡ Settled after → Guarantee (chainOf f) (closeness f) (part ν)
+  pub worth : (f : StruckFile) (μ ν : List ℤ) (total after : ℕ) → HoldsFile s f μ total → HoldsFile t f ν after
+      → r ≡ Settled after → Guarantee (chainLeft f) (closeness (f .file)) (part ν)
   -- a number that is not refused, and a rounded mean that is held after it
-  pub rounded : (f : Bytes) (μ ν : List ℤ) (total after : ℕ) → HoldsFile s f μ total → HoldsFile t f ν after
-      → within 1 sweepLimit n ≡ true → Rounded (chainOf f) (closeness f) (part ν) → r ≡ Settled after
+  pub rounded : (f : StruckFile) (μ ν : List ℤ) (total after : ℕ) → HoldsFile s f μ total → HoldsFile t f ν after
+      → within 1 sweepLimit n ≡ true → Rounded (chainLeft f) (closeness (f .file)) (part ν) → r ≡ Settled after

@@ -7,7 +7,7 @@ use Rattle.integers.specs.Summation.{total}
 use Rattle.definitions.specs.Layout.{rowStart, rowAt, rowLength}
 use Rattle.definitions.specs.Refusals.{clear, refuses}
 use Rattle.definitions.specs.Matrix.{passed, fails}
-use Rattle.definitions.specs.Machine.{refused, opened, judged, settled, going, written, ultimate-is}
+use Rattle.definitions.specs.Machine.{refused, opened, judged, settled, going, written, ultimate-is, struck-out}
 use Rattle.chain.specs.declared.arrays.Figures.{Figures}
 use Rattle.chain.specs.Arrays.{figuresAt}
 use Rattle.showing.specs.declared.FiguresAnswer.the-variants.{Shown, Refused}
@@ -21,6 +21,7 @@ pub record Pinned : Type 0 where
   pub opened-file : refusalTold opened ≡ refusal 0 0
   pub refused-file : (number place : ℕ) → refusalTold (refused number place) ≡ refusal number place
   pub written-mean : refusalTold written ≡ refusal 0 0
+  pub struck-step : refusalTold struck-out ≡ refusal 0 0
   pub passed-mean : judgeTold (judged passed) ≡ record { refusal = refusal 0 0; passed = 1; part = 0 }
   pub failing-mean : (k : ℕ) → judgeTold (judged (fails k)) ≡ record { refusal = refusal 0 0; passed = 0; part = k }
   pub refused-record : (number place : ℕ)
@@ -52,6 +53,7 @@ pinned = record {
   opened-file = refl;
   refused-file = λ number place. refl;
   written-mean = refl;
+  struck-step = refl;
   passed-mean = refl;
   failing-mean = λ k. refl;
   refused-record = λ number place. refl;

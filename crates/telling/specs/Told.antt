@@ -5,7 +5,7 @@ use Rattle.definitions.specs.Layout.{rowAt, rowLength}
 use Rattle.definitions.specs.Refusals.{Check, clear, refuses}
 use Rattle.definitions.specs.Matrix.{passed, fails}
 use Rattle.definitions.specs.Ultimate.{Ultimate}
-use Rattle.definitions.specs.Machine.{Answer, refused, opened, judged, settled, going, written, ultimate-is, part-shown, row-is-shown, closed}
+use Rattle.definitions.specs.Machine.{Answer, refused, opened, judged, settled, going, written, ultimate-is, struck-out, part-shown, row-is-shown, closed}
 use Rattle.chain.specs.declared.arrays.Figures.{Figures}
 use Rattle.showing.specs.declared.FiguresAnswer.{FiguresAnswer}
 use Rattle.showing.specs.declared.FiguresAnswer.the-variants.{Shown, Refused}
@@ -20,7 +20,8 @@ use Rattle.telling.specs.declared.System.{System}
 abbrev pub none : Refusal
 none = record { number = 0; place = 0 }
 
--- Number and place of a refusal; 1 where the mean passes; a count: the first part that fails, or the sweeps run since open; and a figure.
+-- Number and place of a refusal; 1 where the mean passes; a count: the first part that fails, or the sweeps run since open or the last
+-- strike; and a figure.
 pub record Numbers : Type 0 where
   pub number : ℕ
   pub place : ℕ
@@ -43,6 +44,7 @@ told (settled total) = numbers 0 0 1 total
 told (going total) = numbers 0 0 0 total
 told written = numbers 0 0 0 0
 told (ultimate-is r) = record { number = 0; place = 0; passing = 0; count = 0; figure = r }
+told struck-out = numbers 0 0 0 0
 told (part-shown bytes) = numbers 0 0 0 0
 told row-is-shown = numbers 0 0 0 0
 told closed = numbers 0 0 0 0

@@ -5,12 +5,14 @@ ghost use Rattle.judging.specs.Judges.{ofJudge};
 ghost use Rattle.sweeping.specs.Sweeps.{ofSweep};
 ghost use Rattle.writing.specs.Writes.{ofWrite};
 ghost use Rattle.projecting.specs.Projects.{ofProject};
+ghost use Rattle.striking.specs.Strikes.{ofStrike};
 ghost use Rattle.telling.specs.Told.{refusalTold, judgeTold, sweepTold, figuresTold, systemTold, ultimateTold};
 use judging::JudgeAnswer;
 use opening::OpenAnswer;
 use projecting::UltimateAnswer;
 use showing::FiguresAnswer;
 use showing::Showing;
+use striking::StrikeAnswer;
 use sweeping::SweepAnswer;
 use writing::WriteAnswer;
 
@@ -28,7 +30,7 @@ pub struct Judged {
     pub part: u64,
 }
 
-// Settled (1) or going (0), with the sweeps run since open.
+// Settled (1) or going (0), with the sweeps run since open or the last strike.
 #[repr(C)]
 pub struct Swept {
     pub refusal: Refusal,
@@ -127,6 +129,15 @@ pub fn open_told(a: OpenAnswer) -> Refusal
     match a {
         OpenAnswer::Opened => refusal_of(0, 0),
         OpenAnswer::Refused(number, place) => refusal_of(number, place),
+    }
+}
+
+pub fn strike_told(a: StrikeAnswer) -> Refusal
+    ensures { λ r. ⌜ r ≡ refusalTold (ofStrike a) ⌝ }
+{
+    match a {
+        StrikeAnswer::Struck => refusal_of(0, 0),
+        StrikeAnswer::Refused(number, place) => refusal_of(number, place),
     }
 }
 

@@ -12,6 +12,7 @@ use Rattle.definitions.specs.Words.{part}
 use Rattle.definitions.specs.Layout.{Bytes}
 use Rattle.definitions.specs.Matrix as D
 use Rattle.definitions.specs.Matrix.{passes}
+use Rattle.definitions.specs.Strikes.{figuresLeft}
 use Rattle.definitions.specs.Machine.{Answer, written, refused, holds, Outcome, writes, writeCall}
 use Rattle.layout.specs.declared.checks.Check.{Check}
 use Rattle.layout.specs.declared.checks.Check.the-variants.{Refuses}
@@ -55,7 +56,7 @@ module _ (size : ℕ → ℕ) (text : Text) (s : Held) (before : Bytes) where
     buffer = b;
     worth = λ f μ total open-file told.
         worth open-file μ
-        (written-passes size text (D.figuresOf f) μ total before
+        (written-passes size text (figuresLeft f) μ total before
         (ap (λ x. writesTo size text x before .answer) (sym (open-file .state)) ∙ sym a ∙ ap ofWrite told));
   }
 

@@ -6,8 +6,8 @@ use lib.IntN.{ℤ}
 use Rattle.definitions.specs.Words.{part}
 use Rattle.definitions.specs.Layout.{Bytes, closeness, recordLength}
 use Rattle.definitions.specs.Page.{pageLength}
-use Rattle.definitions.specs.Observations.{chainOf}
 use Rattle.definitions.specs.Matrix.{Figures}
+use Rattle.definitions.specs.Strikes.{StruckFile, chainLeft}
 use Rattle.definitions.specs.Machine as M
 use Rattle.definitions.specs.Machine.{Answer, State, Outcome, writeCall, recordIn, pageIn}
 use Rattle.definitions.specs.Guarantee.{Guarantee}
@@ -33,7 +33,8 @@ pub record Writes (size : ℕ → ℕ) (text : Text) (s : Held) (before : Bytes)
   pub answer : ofWrite r ≡ writesTo size text (stateOf s) before .answer
   pub buffer : after ≡ writesTo size text (stateOf s) before .buffer
   -- the mean that is written
-  pub worth : (f : Bytes) (μ : List ℤ) (total : ℕ) → HoldsFile s f μ total → r ≡ Written → Guarantee (chainOf f) (closeness f) (part μ)
+  pub worth : (f : StruckFile) (μ : List ℤ) (total : ℕ) → HoldsFile s f μ total → r ≡ Written
+      → Guarantee (chainLeft f) (closeness (f .file)) (part μ)
 
 abbrev pub Reads : Held → Bytes → WriteAnswer → Bytes → Type 0
 Reads = Writes recordLength recordIn

@@ -18,7 +18,7 @@ last-year-requires c κs = search needs
 
 -- where the function starts, by the place where all parts are read
 abbrev start : tie.After-read-parts → tie.Start
-start c = c .before .before .before .before .before .before .before .before .before .before
+start c = c .before .before .before .before .before .before .before .before .before .before .before
 
 weigh-ratios-requires : tie.Need-weigh-ratios-requires
 weigh-ratios-requires c κs =

@@ -81,12 +81,12 @@ module _ (c : tie.After-last-year) where
   year = c .last-year .ensures
 
 observe-requires : tie.Need-observe-requires
-observe-requires c κs = let d = c .before .before .before in file-accepted (bytes d) (clear-file d)
+observe-requires c κs = let d = c .before .before .before .before in file-accepted (bytes d) (clear-file d)
 
 -- what is observed
 module _ (c : tie.After-observe) where
   abbrev dated : tie.After-last-year
-  dated = c .before .before .before .before
+  dated = c .before .before .before .before .before
 
   abbrev ticks : List ℤ
   ticks = c .observe .last .0
@@ -97,6 +97,9 @@ module _ (c : tie.After-observe) where
   abbrev variances : List ℕ
   variances = c .observe .last .1 .1 .0
 
+  abbrev struck : List ℕ
+  struck = c .observe .last .1 .1 .1 .0
+
   asked : OfObservations ticks weights (dated .last-year .result)
   asked = subst (OfObservations ticks weights) (sym (year dated)) (of-observations (bytes dated) (clear-file dated) (c .observe .ensures))
 
@@ -104,17 +107,17 @@ module _ (c : tie.After-observe) where
   asked-means = subst (OfMeans ticks) (sym (year dated)) (of-means (bytes dated) (clear-file dated) (c .observe .ensures))
 
 figures-in-requires : tie.Need-figures-in-requires
-figures-in-requires c κs = asked (c .before .before .before .before .before)
+figures-in-requires c κs = asked (c .before .before .before .before .before .before)
 
 -- where it is observed, by the place where the figures are made
 abbrev observed : tie.After-figures-in → tie.After-observe
-observed c = c .before .before .before .before .before .before
+observed c = c .before .before .before .before .before .before .before
 
 start-mean-requires : tie.Need-start-mean-requires
 start-mean-requires c κs = asked-means (observed (c .before .before))
 
-cast-t18 : tie.Need-cast-t18
-cast-t18 c = search needs
+cast-t19 : tie.Need-cast-t19
+cast-t19 c = search needs
 
 -- what is held
 module _ (c : tie.After-start-mean) where
@@ -133,14 +136,15 @@ module _ (c : tie.After-start-mean) where
 
   abbrev before : Observations
   before =
-      let a = start (fresh (dated at)) .args in observationsAt (now (a .ticks)) (now (a .weights)) (now (a .variances))
+      let a = start (fresh (dated at)) .args in
+      observationsAt (now (a .ticks)) (now (a .weights)) (now (a .variances)) (now (a .struck))
 
   opened : Opens (S (start (fresh (dated at)))) before file Opened (after (lastYear file) (closeness file))
-      (observationsAt (ticks at) (weights at) (variances at))
+      (observationsAt (ticks at) (weights at) (variances at) (struck at))
   opened =
       let F = made .figures-in .last in
       done file (clear-file (dated at)) (at .observe .ensures)
-      (subst (λ J. FiguresOf (ticks at) (weights at) J (F .0) (F .1 .0) (F .1 .1 .0)) (year (dated at)) (made .figures-in .ensures))
+      (subst (λ J. FiguresOf (ticks at) (weights at) (struck at) J (F .0) (F .1 .0) (F .1 .1 .0)) (year (dated at)) (made .figures-in .ensures))
       (subst (λ J. PriorMeans (ticks at) J (c .start-mean .last .0)) (year (dated at)) (c .start-mean .ensures))
       (S (start (fresh (dated at)))) before (closed (fresh (dated at)))
 
@@ -152,11 +156,11 @@ returns-3 c =
     let held = c .before in
     let d = dated (at held) in
     subst₂ (λ J e. Opens (S (start (fresh d))) (before held) (file held) Opened (after held J e)
-    (observationsAt (ticks (at held)) (weights (at held)) (variances (at held))))
+    (observationsAt (ticks (at held)) (weights (at held)) (variances (at held)) (struck (at held))))
     (sym (year d)) (sym (c .closeness-of .ensures)) (opened held)
 
 pub open-lent-spec : {M : Type 1} → statement M
 open-lent-spec = tie.close (tie.spec
     element-copy-out-is-open element-copy-out-is-open-2 element-copy-out-is-open-3 is-open-requires returns check-file-requires
-    enum-known-checked returns-2 enum-told last-year-requires observe-requires figures-in-requires start-mean-requires cast-t18
+    enum-known-checked returns-2 enum-told last-year-requires observe-requires figures-in-requires start-mean-requires cast-t19
     closeness-of-requires returns-3)

@@ -21,8 +21,8 @@ module _ (c : tie.Start) where
   abbrev s : Held
   s = let a = c .args in heldAt (a .last) (a .closeness) (a .total) (now (a .own)) (now (a .matrix)) (now (a .right-hand)) (now (a .mean))
 
-  abbrev o : List ℕ → Observations
-  o weights = observationsAt (now (c .args .ticks)) weights (now (c .args .variances))
+  abbrev o : List ℕ → List ℕ → Observations
+  o weights struck = observationsAt (now (c .args .ticks)) weights (now (c .args .variances)) struck
 
 check-passing-requires : tie.Need-check-passing-requires
 check-passing-requires c κs = search needs
@@ -31,10 +31,10 @@ enum-known-checked : tie.Need-enum-known-checked
 enum-known-checked c = search needs
 
 returns : tie.Need-returns
-returns c weights =
+returns c weights struck =
     let refused = c .before in
     let start = refused .before .before .before in
-    projects-refused (o start weights) (s start) (start .args .year) (refused .before .before .check-passing .ensures) (refused .checked .given .1)
+    projects-refused (o start weights struck) (s start) (start .args .year) (refused .before .before .check-passing .ensures) (refused .checked .given .1)
 
 enum-told : tie.Need-enum-told
 enum-told c = search needs
@@ -51,14 +51,14 @@ module _ (c : tie.After-enum-told) where
   passing = c .before .before .check-passing .ensures .passing (c .enum-told .given .1)
 
 returns-2 : tie.Need-returns-2
-returns-2 c weights =
+returns-2 c weights struck =
     let held = c .before in
-    projects-before (o (start held) weights) _ _ (open-file held) (passing held) (c .if1 .taken)
+    projects-before (o (start held) weights struck) _ _ (open-file held) (passing held) (c .if1 .taken)
 
 returns-3 : tie.Need-returns-3
-returns-3 c weights =
+returns-3 c weights struck =
     let held = c .before .before in
-    projects-behind (o (start held) weights) _ _ (open-file held) (passing held) (c .if2 .taken)
+    projects-behind (o (start held) weights struck) _ _ (open-file held) (passing held) (c .if2 .taken)
 
 central-ultimate-requires : tie.Need-central-ultimate-requires
 central-ultimate-requires c κs =
@@ -72,11 +72,11 @@ central-ultimate-requires c κs =
 
 returns-4 : tie.Need-returns-4
 unfolding figuresOf
-returns-4 c weights =
+returns-4 c weights struck =
     let in-range = c .before in
     let held = in-range .before .before in
-    projects-central (o (start held) weights) _ _ (open-file held) (passing held)
-    (omega (arith, in-range .before .if1 .left)) (omega (arith, in-range .if2 .left)) (c .central-ultimate .ensures .is weights)
+    projects-central (o (start held) weights struck) _ _ (open-file held) (passing held)
+    (omega (arith, in-range .before .if1 .left)) (omega (arith, in-range .if2 .left)) (c .central-ultimate .ensures .is weights struck)
 
 pub ultimate-lent-spec : {M : Type 1} → statement M
 ultimate-lent-spec = tie.close (tie.spec

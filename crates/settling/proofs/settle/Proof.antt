@@ -6,7 +6,7 @@ use borrow.Author.Needs.{needs}
 use denote.Ref.{now}
 use lib.ListN.{length}
 use Rattle.definitions.specs.Layout.{Bytes}
-use Rattle.definitions.specs.Matrix.{figuresOf}
+use Rattle.definitions.specs.Strikes.{figuresLeft}
 use Rattle.definitions.specs.Machine.{empty, mapState}
 use Rattle.laws.specs.Printed.{opening, long-text, refused-text}
 use Rattle.holding.specs.State.{stateOf, keptWith, sessionState}
@@ -39,7 +39,7 @@ module _ (c : tie.After-open) where
       ∙ ap (λ st. opensTo st bytes .answer) none
       ∙ ap (λ x. x .answer) (opens-as-file bytes)
 
-  open-state : stateOf (heldBy (c .«open» .result .session)) ≡ mapState figuresOf (opening bytes .state)
+  open-state : stateOf (heldBy (c .«open» .result .session)) ≡ mapState figuresLeft (opening bytes .state)
   open-state =
       let after = c .«open» .result .session in
       held-figures (after .observations) (heldBy after) (opening bytes .state)

@@ -20,7 +20,7 @@ ultimate-told-requires : tie.Need-ultimate-told-requires
 ultimate-told-requires c κs = search needs
 
 returns : tie.Need-returns
-returns c weights = projects-told _ _ _ _ (c .before .ultimate-lent .ensures weights) (c .ultimate-told .ensures)
+returns c weights struck = projects-told _ _ _ _ (c .before .ultimate-lent .ensures weights struck) (c .ultimate-told .ensures)
 
 pub desk-ultimate-lent-spec : {M : Type 1} → statement M
 desk-ultimate-lent-spec =

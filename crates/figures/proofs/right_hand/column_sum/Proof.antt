@@ -18,7 +18,7 @@ returns c =
     let a = c .before .before .args in
     same (c .start-sum .result) (c .start-sum .ok)
     ∙ c .start-sum .ensures
-    ∙ sym (column-start (now (a .ticks)) (a .last) (a .k) (c .before .if1 .taken))
+    ∙ sym (column-start (now (a .ticks)) (now (a .struck)) (a .last) (a .k) (c .before .if1 .taken))
 
 sub-step-sum : tie.Need-sub-step-sum
 sub-step-sum c = search needs
@@ -28,6 +28,7 @@ step-sum-requires c κs = record {
   of-rows = c .before .before .pre .of-rows;
   in-blocks = zero-le;
   before-last = omega (arith, c .if2 .taken, c .before .if1 .left);
+  of-part = c .before .before .pre .below;
 }
 
 returns-2 : tie.Need-returns-2
@@ -35,7 +36,7 @@ returns-2 c =
     let a = c .before .before .before .args in
     same (c .step-sum .result) (c .step-sum .ok)
     ∙ c .step-sum .ensures
-    ∙ sym (column-phi (now (a .ticks)) (a .last) (a .k) (c .before .before .if1 .left) (c .before .if2 .taken))
+    ∙ sym (column-phi (now (a .ticks)) (now (a .struck)) (a .last) (a .k) (c .before .before .if1 .left) (c .before .if2 .taken))
 
 cells-of-requires : tie.Need-cells-of-requires
 cells-of-requires c κs = search needs
@@ -51,6 +52,7 @@ step-sum-requires-2 c κs = record {
   of-rows = c .before .before .before .pre .of-rows;
   in-blocks = omega (arith, c .cells-of .ensures);
   before-last = omega (arith, c .before .if2 .left, c .before .before .before .pre .below);
+  of-part = c .before .before .before .pre .below;
 }
 
 returns-3 : tie.Need-returns-3
@@ -58,8 +60,8 @@ returns-3 c =
     let a = c .before .before .before .before .args in
     same (c .step-sum2 .result) (c .step-sum2 .ok)
     ∙ c .step-sum2 .ensures
-    ∙ ap (λ block. stepSum (now (a .ticks)) (a .last) block (a .k - a .last - 1)) (c .before .cells-of .ensures)
-    ∙ sym (column-psi (now (a .ticks)) (a .last) (a .k) (c .before .before .if2 .left))
+    ∙ ap (λ block. stepSum (now (a .ticks)) (now (a .struck)) (a .last) block (a .k - a .last - 1) (a .k)) (c .before .cells-of .ensures)
+    ∙ sym (column-psi (now (a .ticks)) (now (a .struck)) (a .last) (a .k) (c .before .before .if2 .left))
 
 pub column-sum-spec : {M : Type 1} → statement M
 column-sum-spec = tie.close (tie.spec

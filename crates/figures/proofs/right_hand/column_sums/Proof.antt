@@ -10,10 +10,10 @@ use Rattle.figures.proofs.right_hand.column_sums.Statement.{statement}
 use Rattle.figures.proofs.right_hand.column_sums.Tie as tie
 
 abbrev Inv-loop : tie.InvT-loop
-Inv-loop logs starts last count sums₀ k₀ sums k = (k ≤ count) × Filled 31 k (pos 0) (columnSum logs last) sums
+Inv-loop logs starts struck last count sums₀ k₀ sums k = (k ≤ count) × Filled 31 k (pos 0) (columnSum logs struck last) sums
 
 abbrev μ-loop : tie.MeasureT-loop
-μ-loop logs starts last count sums₀ k₀ sums k = count - k
+μ-loop logs starts struck last count sums₀ k₀ sums k = count - k
 
 mul-count : tie.Need-mul-count Inv-loop μ-loop
 mul-count c = omega arith

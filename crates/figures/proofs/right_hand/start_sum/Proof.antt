@@ -1,9 +1,11 @@
 -- `figures::right_hand::start_sum` meets its contract. The loop's invariant: the total is that of the years before i.
 use Prim.Native.Nat.{ℕ, _+_, _*_, _-_, _^_, _≤_, _<_}
 use mathlib.Core.Path.{_≡_, sym, ap, ap₂, _∙_}
+use mathlib.Core.Bool.{not, cond}
 use mathlib.Core.List.{List}
 use native.Mathlib.Omega.{arith}
-use lib.IntN.{ℤ, natAbs, _+ℤ_}
+use lib.IntN.{ℤ, pos, natAbs, _+ℤ_}
+use lib.Dec.{eqb}
 use denote.Ref.{now}
 use mir.Syntax.{w64}
 use mir.Val.{toZ}
@@ -12,18 +14,19 @@ use Rattle.integers.specs.Sum.{sum, sum-zero, sum-next}
 use Rattle.definitions.specs.Words.{part}
 use Rattle.definitions.specs.Layout.{cells, rowStart}
 use Rattle.laws.specs.Cells.{cell-below, cells-few}
-use Rattle.integers.specs.Bits.{stored, read}
+use Rattle.integers.specs.Bits.{stored, read, same}
 use Rattle.observations.specs.Arrays
-use Rattle.figures.specs.Sums.{Logs, startSum}
-use Rattle.figures.specs.SumLaws.{row-at, sum-small}
+use Rattle.figures.specs.Sums.{Logs, countedAt, startSum}
+use Rattle.figures.specs.SumLaws.{row-at, sum-small, counted-small}
 use Rattle.figures.proofs.right_hand.start_sum.Statement.{statement}
 use Rattle.figures.proofs.right_hand.start_sum.Tie as tie
 
 abbrev Inv-loop : tie.InvT-loop
-Inv-loop logs starts last count total₀ i₀ total i = (i ≤ count) × (toZ w64 total ≡ sum i (λ y. part logs (rowStart last y)))
+Inv-loop logs starts struck last count total₀ i₀ total i =
+    (i ≤ count) × (toZ w64 total ≡ sum i (countedAt struck 0 (λ y. part logs (rowStart last y))))
 
 abbrev μ-loop : tie.MeasureT-loop
-μ-loop logs starts last count total₀ i₀ total i = count - i
+μ-loop logs starts struck last count total₀ i₀ total i = count - i
 
 add-count : tie.Need-add-count Inv-loop μ-loop
 add-count c = omega arith
@@ -72,28 +75,50 @@ module _ (c : tie.In-loop Inv-loop μ-loop) where
   log : stored (part logs at) ≡ start i
   log = read (part logs at) (omega (arith, small .small at inside)) ∙ ap (part logs) at-is
 
-  next : toZ w64 (c .before .loop .total) +ℤ stored (part logs at) ≡ sum (i + 1) start
-  next = ap₂ _+ℤ_ (c .before .loop .inv .1) log ∙ sym (sum-next i start)
+  abbrev counts : ℕ → ℤ
+  counts = countedAt (now (s .args .struck)) 0 start
 
-  next-small : natAbs (sum (i + 1) start) < 2 ^ 63
+  next-small : natAbs (sum (i + 1) counts) < 2 ^ 63
   next-small =
-      sum-small (i + 1) start (omega (arith, more, small .few))
-      (λ y below. omega (arith, small .small (rowStart J y) (starts-inside y (omega (arith, more)))))
+      sum-small (i + 1) counts (omega (arith, more, small .few))
+      (λ y below. counted-small (now (s .args .struck)) 0 start y
+      (omega (arith, small .small (rowStart J y) (starts-inside y (omega (arith, more))))))
 
-mul-total : tie.Need-mul-total Inv-loop μ-loop
-mul-total c = omega (arith, more c, small c .few)
+mul-start : tie.Need-mul-start Inv-loop μ-loop
+mul-start c = omega (arith, more c, small c .few)
 
-element-copy-out-total : tie.Need-element-copy-out-total Inv-loop μ-loop
-element-copy-out-total c = omega (arith, more c, small c .few)
+element-copy-out-start : tie.Need-element-copy-out-start Inv-loop μ-loop
+element-copy-out-start c = omega (arith, more c, small c .few)
 
-mul-total-2 : tie.Need-mul-total-2 Inv-loop μ-loop
-mul-total-2 c = omega (arith, in-array (c .before))
+mul-start-2 : tie.Need-mul-start-2 Inv-loop μ-loop
+mul-start-2 c = omega (arith, in-array (c .before))
 
-element-copy-out-total-2 : tie.Need-element-copy-out-total-2 Inv-loop μ-loop
-element-copy-out-total-2 c = omega (arith, in-array (c .before))
+element-copy-out-start-2 : tie.Need-element-copy-out-start-2 Inv-loop μ-loop
+element-copy-out-start-2 c = omega (arith, in-array (c .before))
+
+element-copy-out-counted : tie.Need-element-copy-out-counted Inv-loop μ-loop
+element-copy-out-counted c = let l = c .before .before in omega (arith, more l, small l .few)
+
+counted-requires : tie.Need-counted-requires Inv-loop μ-loop
+counted-requires c κs = tt
+
+-- with the next logarithm, where it counts
+next : (c : tie.After-counted Inv-loop μ-loop) → let l = c .before .before .before .before in
+    toZ w64 (l .before .loop .total) +ℤ stored (c .counted .result) ≡ sum (i l + 1) (counts l)
+next c =
+    let l = c .before .before .before .before in
+    let struck = now (s l .args .struck) in
+    ap₂ _+ℤ_ (l .before .loop .inv .1)
+    (same (c .counted .result) (c .counted .ok)
+    ∙ c .counted .ensures
+    ∙ ap₂ (λ n z. cond (not (eqb (Arrays.at struck n) 0)) (pos 0) z) (first (i l)) (log l))
+    ∙ sym (sum-next (i l) (counts l))
+  where
+    first : (n : ℕ) → n ≡ 16 * 0 + n
+    first n = omega arith
 
 add-total : tie.Need-add-total Inv-loop μ-loop
-add-total c = fits (next (c .before .before)) (next-small (c .before .before))
+add-total c = fits (next c) (next-small (c .before .before .before .before))
 
 add-i : tie.Need-add-i Inv-loop μ-loop
 add-i c = omega arith
@@ -102,7 +127,7 @@ loop-less : tie.Need-loop-less Inv-loop μ-loop
 loop-less c = omega arith
 
 loop-again : tie.Need-loop-again Inv-loop μ-loop
-loop-again c = (omega arith, kept w64 (next (c .before .before)) (next-small (c .before .before)))
+loop-again c = (omega arith, kept w64 (next c) (next-small (c .before .before .before .before)))
 
 returns : tie.Need-returns Inv-loop μ-loop
 unfolding startSum
@@ -110,9 +135,9 @@ returns c =
     let l = c .before .loop in
     let a = c .before .before .args in
     let all : l .i ≡ a .last + 1 = omega arith in
-    l .inv .1 ∙ ap (λ m. sum m (λ y. part (now (a .ticks)) (rowStart (a .last) y))) all
+    l .inv .1 ∙ ap (λ m. sum m (countedAt (now (a .struck)) 0 (λ y. part (now (a .ticks)) (rowStart (a .last) y)))) all
 
 pub start-sum-spec : {M : Type 1} → statement M
 start-sum-spec = tie.close (tie.spec
-    Inv-loop μ-loop add-count loop-holds mul-total element-copy-out-total mul-total-2 element-copy-out-total-2 add-total add-i
-    loop-less loop-again returns)
+    Inv-loop μ-loop add-count loop-holds mul-start element-copy-out-start mul-start-2 element-copy-out-start-2 element-copy-out-counted
+    counted-requires add-total add-i loop-less loop-again returns)

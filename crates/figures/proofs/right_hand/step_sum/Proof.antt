@@ -1,9 +1,10 @@
 -- `figures::right_hand::step_sum` meets its contract. The loop's invariant: the total is that of the years before i.
 use Prim.Native.Nat.{ℕ, _+_, _*_, _-_, _^_, _≤_, _<_}
 use mathlib.Core.Path.{_≡_, sym, ap, ap₂, subst, _∙_}
+use mathlib.Core.Bool.{cond}
 use mathlib.Core.List.{List}
 use native.Mathlib.Omega.{arith}
-use lib.IntN.{ℤ, natAbs, _+ℤ_, _-ℤ_}
+use lib.IntN.{ℤ, pos, natAbs, _+ℤ_, _-ℤ_}
 use denote.Ref.{now}
 use mir.Syntax.{w64}
 use mir.Val.{toZ, Fits}
@@ -12,18 +13,20 @@ use Rattle.integers.specs.Sum.{sum, sum-zero, sum-next}
 use Rattle.definitions.specs.Words.{part}
 use Rattle.definitions.specs.Layout.{cells, rowStart}
 use Rattle.laws.specs.Cells.{cells-few}
-use Rattle.integers.specs.Bits.{stored, read}
+use Rattle.integers.specs.Bits.{stored, read, same}
 use Rattle.observations.specs.Arrays
-use Rattle.figures.specs.Sums.{Logs, stepOf, stepSum}
-use Rattle.figures.specs.SumLaws.{row-at, step-inside, step-small, sum-small}
+use Rattle.observations.specs.Arrays.{markAt}
+use Rattle.figures.specs.Sums.{Logs, stepOf, countedAt, stepSum}
+use Rattle.figures.specs.SumLaws.{row-at, step-inside, step-small, sum-small, counted-small}
 use Rattle.figures.proofs.right_hand.step_sum.Statement.{statement}
 use Rattle.figures.proofs.right_hand.step_sum.Tie as tie
 
 abbrev Inv-loop : tie.InvT-loop
-Inv-loop logs starts last block column count total₀ i₀ total i = (i ≤ count) × (toZ w64 total ≡ sum i (stepOf logs last block column))
+Inv-loop logs starts struck last block column k count total₀ i₀ total i =
+    (i ≤ count) × (toZ w64 total ≡ sum i (countedAt struck k (stepOf logs last block column)))
 
 abbrev μ-loop : tie.MeasureT-loop
-μ-loop logs starts last block column count total₀ i₀ total i = count - i
+μ-loop logs starts struck last block column k count total₀ i₀ total i = count - i
 
 sub-count : tie.Need-sub-count Inv-loop μ-loop
 sub-count c = omega (arith, c .pre .before-last)
@@ -83,13 +86,16 @@ module _ (c : tie.In-loop Inv-loop μ-loop) where
   next-step : natAbs (stepAt i) < 2 ^ 63
   next-step = omega (arith, steps-small i more)
 
-  next : toZ w64 (c .before .loop .total) +ℤ stored (stored (part logs (at + 1)) -ℤ stored (part logs at)) ≡ sum (i + 1) stepAt
-  next = ap₂ _+ℤ_ (c .before .loop .inv .1) (kept w64 step next-step) ∙ sym (sum-next i stepAt)
+  abbrev counts : ℕ → ℤ
+  counts = countedAt (now (s .args .struck)) (s .args .k) stepAt
 
-  next-small : natAbs (sum (i + 1) stepAt) < 2 ^ 63
+  next-small : natAbs (sum (i + 1) counts) < 2 ^ 63
   next-small =
-      sum-small (i + 1) stepAt (omega (arith, more, small .few))
-      (λ y below. omega (arith, steps-small y (omega (arith, more))))
+      sum-small (i + 1) counts (omega (arith, more, small .few))
+      (λ y below. counted-small (now (s .args .struck)) (s .args .k) stepAt y (omega (arith, steps-small y (omega (arith, more)))))
+
+  mark-inside : 16 * s .args .k + i < 496
+  mark-inside = omega (arith, more, small .few, s .pre .of-part)
 
 mul-at : tie.Need-mul-at Inv-loop μ-loop
 mul-at c = omega (arith, more c, small c .few)
@@ -103,26 +109,50 @@ add-at c = let l = c .before in subst (Fits w64) (sym (cell-is l)) (record { fit
 add-at-2 : tie.Need-add-at-2 Inv-loop μ-loop
 add-at-2 c = omega (arith, in-array (c .before))
 
+add-step : tie.Need-add-step Inv-loop μ-loop
+add-step c = omega (arith, in-array (c .before))
+
+mul-step : tie.Need-mul-step Inv-loop μ-loop
+mul-step c = omega (arith, in-array (c .before))
+
+element-copy-out-step : tie.Need-element-copy-out-step Inv-loop μ-loop
+element-copy-out-step c = omega (arith, in-array (c .before))
+
+mul-step-2 : tie.Need-mul-step-2 Inv-loop μ-loop
+mul-step-2 c = omega (arith, in-array (c .before .before))
+
+element-copy-out-step-2 : tie.Need-element-copy-out-step-2 Inv-loop μ-loop
+element-copy-out-step-2 c = omega (arith, in-array (c .before .before))
+
+sub-step : tie.Need-sub-step Inv-loop μ-loop
+sub-step c = let l = c .before .before .before in fits (step l) (next-step l)
+
+mul-counted : tie.Need-mul-counted Inv-loop μ-loop
+mul-counted c = omega (arith, mark-inside (c .before .before .before))
+
+add-counted : tie.Need-add-counted Inv-loop μ-loop
+add-counted c = omega (arith, mark-inside (c .before .before .before))
+
+element-copy-out-counted : tie.Need-element-copy-out-counted Inv-loop μ-loop
+element-copy-out-counted c = omega (arith, mark-inside (c .before .before .before))
+
+counted-requires : tie.Need-counted-requires Inv-loop μ-loop
+counted-requires c κs = tt
+
+-- with the next step, where it counts
+next : (c : tie.After-counted Inv-loop μ-loop) → let l = c .before .before .before .before .before in
+    toZ w64 (l .before .loop .total) +ℤ stored (c .counted .result) ≡ sum (i l + 1) (counts l)
+next c =
+    let l = c .before .before .before .before .before in
+    let a = s l .args in
+    ap₂ _+ℤ_ (l .before .loop .inv .1)
+    (same (c .counted .result) (c .counted .ok)
+    ∙ c .counted .ensures
+    ∙ ap (cond (markAt (now (a .struck)) (a .k) (i l)) (pos 0)) (kept w64 (step l) (next-step l)))
+    ∙ sym (sum-next (i l) (counts l))
+
 add-total : tie.Need-add-total Inv-loop μ-loop
-add-total c = omega (arith, in-array (c .before))
-
-mul-total : tie.Need-mul-total Inv-loop μ-loop
-mul-total c = omega (arith, in-array (c .before))
-
-element-copy-out-total : tie.Need-element-copy-out-total Inv-loop μ-loop
-element-copy-out-total c = omega (arith, in-array (c .before))
-
-mul-total-2 : tie.Need-mul-total-2 Inv-loop μ-loop
-mul-total-2 c = omega (arith, in-array (c .before .before))
-
-element-copy-out-total-2 : tie.Need-element-copy-out-total-2 Inv-loop μ-loop
-element-copy-out-total-2 c = omega (arith, in-array (c .before .before))
-
-sub-total : tie.Need-sub-total Inv-loop μ-loop
-sub-total c = let l = c .before .before .before in fits (step l) (next-step l)
-
-add-total-2 : tie.Need-add-total-2 Inv-loop μ-loop
-add-total-2 c = let l = c .before .before .before in fits (next l) (next-small l)
+add-total c = fits (next c) (next-small (c .before .before .before .before .before))
 
 add-i : tie.Need-add-i Inv-loop μ-loop
 add-i c = omega arith
@@ -131,7 +161,7 @@ loop-less : tie.Need-loop-less Inv-loop μ-loop
 loop-less c = omega arith
 
 loop-again : tie.Need-loop-again Inv-loop μ-loop
-loop-again c = let l = c .before .before .before in (omega arith, kept w64 (next l) (next-small l))
+loop-again c = (omega arith, kept w64 (next c) (next-small (c .before .before .before .before .before)))
 
 returns : tie.Need-returns Inv-loop μ-loop
 unfolding stepSum
@@ -139,9 +169,10 @@ returns c =
     let l = c .before .loop in
     let a = c .before .before .args in
     let all : l .i ≡ a .last - a .column = omega arith in
-    l .inv .1 ∙ ap (λ m. sum m (stepOf (now (a .ticks)) (a .last) (a .block) (a .column))) all
+    l .inv .1 ∙ ap (λ m. sum m (countedAt (now (a .struck)) (a .k) (stepOf (now (a .ticks)) (a .last) (a .block) (a .column)))) all
 
 pub step-sum-spec : {M : Type 1} → statement M
 step-sum-spec = tie.close (tie.spec
-    Inv-loop μ-loop sub-count loop-holds mul-at element-copy-out-at add-at add-at-2 add-total mul-total element-copy-out-total mul-total-2
-    element-copy-out-total-2 sub-total add-total-2 add-i loop-less loop-again returns)
+    Inv-loop μ-loop sub-count loop-holds mul-at element-copy-out-at add-at add-at-2 add-step mul-step element-copy-out-step mul-step-2
+    element-copy-out-step-2 sub-step mul-counted add-counted element-copy-out-counted counted-requires add-total add-i loop-less
+    loop-again returns)

@@ -1,8 +1,10 @@
--- `kept_logarithm` meets its contract: an element of an array of i64 is read as it is, and then brought back.
+-- `kept_logarithm` meets its contract: an element of an array of i64 is read as it is, and then brought inside.
 use mathlib.Core.Path.{ap, _∙_}
 use borrow.Author.Needs.{needs}
+use denote.Ref.{now}
 use Rattle.integers.specs.Bits.{same}
-use Rattle.definitions.specs.Sweep.{bringBack}
+use Rattle.definitions.specs.Words.{part}
+use Rattle.observations.specs.Arrays.{logWithin}
 use Rattle.observations.proofs.kept.kept_logarithm.Statement.{statement}
 use Rattle.observations.proofs.kept.kept_logarithm.Tie as tie
 
@@ -12,14 +14,14 @@ mul-kept c = search needs
 element-copy-out-kept : tie.Need-element-copy-out-kept
 element-copy-out-kept c = search needs
 
-brought-back-requires : tie.Need-brought-back-requires
-brought-back-requires c κs = search needs
+logarithm-within-requires : tie.Need-logarithm-within-requires
+logarithm-within-requires c κs = search needs
 
 returns : tie.Need-returns
 returns c =
-    same (c .brought-back .result) (c .brought-back .ok)
-    ∙ c .brought-back .ensures
-    ∙ ap bringBack (same _ (c .before .kept .given))
+    same (c .logarithm-within .result) (c .logarithm-within .ok)
+    ∙ c .logarithm-within .ensures
+    ∙ ap logWithin (same (part (now (c .before .before .args .ticks)) (c .before .before .args .c)) (c .before .kept .given))
 
 pub kept-logarithm-spec : {M : Type 1} → statement M
-kept-logarithm-spec = tie.close (tie.spec mul-kept element-copy-out-kept brought-back-requires returns)
+kept-logarithm-spec = tie.close (tie.spec mul-kept element-copy-out-kept logarithm-within-requires returns)

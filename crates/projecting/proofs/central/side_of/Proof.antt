@@ -9,7 +9,7 @@ use mir.Syntax.{w64}
 use Rattle.integers.specs.Bits.{stored, same}
 use Rattle.integers.specs.Size.{fits, kept}
 use Rattle.definitions.specs.Words.{part}
-use Rattle.definitions.specs.Sweep.{bringBack}
+use Rattle.observations.specs.Arrays.{logWithin}
 use Rattle.projecting.specs.Central.{partsFrom}
 use Rattle.projecting.specs.CentralLaws.{side-small}
 use Rattle.projecting.proofs.central.side_of.Statement.{statement}
@@ -35,7 +35,7 @@ module _ (c : tie.After-struct-told2) where
   s = read .before
 
   abbrev ultimate : ℤ
-  ultimate = bringBack (part (now (s .args .ticks)) (s .args .cell)) +ℤ partsFrom (now (s .args .mean)) (s .args .first) (s .args .count)
+  ultimate = logWithin (part (now (s .args .ticks)) (s .args .cell)) +ℤ partsFrom (now (s .args .mean)) (s .args .first) (s .args .count)
 
   ultimate-is : stored (read .kept-logarithm .result .0) +ℤ stored (summed .part-sum .result .0) ≡ ultimate
   ultimate-is = ap₂ _+ℤ_

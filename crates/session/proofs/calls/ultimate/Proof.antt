@@ -9,7 +9,8 @@ ultimate-lent-requires c κs = search needs
 returns : tie.Need-returns
 returns c =
     let lent = c .before .before .before .before in
-    c .ultimate-lent .ensures (lent .before .before .before .before .args .t1 .observations .weights)
+    let kept = lent .before .before .before .before .args .t1 .observations in
+    c .ultimate-lent .ensures (kept .weights) (kept .struck)
 
 pub ultimate-spec : {M : Type 1} → statement M
 ultimate-spec = tie.close (tie.spec ultimate-lent-requires returns)
