@@ -7,9 +7,12 @@ mean.
 
 from collections.abc import Sequence
 from dataclasses import dataclass
+from functools import lru_cache
+from typing import NamedTuple
 
-from layout import MEAN_LIMITS, File, Triangle
+from layout import MEAN_LIMITS, PAID, File, Triangle
 from scales import logarithm, weight
+from strikes import NONE, Steps, left_of
 
 
 @dataclass(frozen=True)
@@ -35,9 +38,17 @@ class Observations:
     y: tuple[int | None, ...]
 
 
+class Seen(NamedTuple):
+    """An observation of one part alone: an x of a phi, or a z of a psi."""
+
+    part: int
+    weight: int
+    ticks: int
+
+
 @dataclass(frozen=True)
 class Figures:
-    """What the calls need of an accepted file, worked out once."""
+    """What the calls need of an accepted file and its strikes, worked out once."""
 
     closeness: int
     own: tuple[int, ...]
@@ -59,6 +70,7 @@ def weights_of(file: File) -> Weights:
     )
 
 
+@lru_cache(maxsize=16)  # the same with every strike
 def observations_of(file: File) -> Observations:
     paid = tuple(tuple(map(logarithm, row)) for row in file.paid)
     incurred = tuple(tuple(map(logarithm, row)) for row in file.incurred)
@@ -74,59 +86,78 @@ def _differences(row: Sequence[int]) -> tuple[int, ...]:
     return tuple(after - before for before, after in zip(row, row[1:]))
 
 
-def own_weights_of(last: int, weights: Weights) -> tuple[int, ...]:
+def seen_of(file: File, weights: Weights, observations: Observations, struck: Steps) -> list[Seen]:
+    """Each x and each z that is left, in the order of the steps."""
+    seen = []
+    for channel, year, column in left_of(file.last, struck):
+        if channel == PAID:
+            seen.append(Seen(column, weights.p[column], observations.x[year][column]))
+        else:
+            seen.append(Seen(file.last + 1 + column, weights.q[column], observations.z[year][column]))
+    return seen
+
+
+def own_weights_of(weights: Weights, seen: Sequence[Seen]) -> tuple[int, ...]:
     """D: the prior's weight and that of each observation of the part alone."""
-    phi = tuple(weights.s[j] + (last - j + 1) * weights.p[j] for j in range(last + 1))
-    psi = tuple(weights.t[j] + (last - j) * weights.q[j] for j in range(last))
-    return phi + psi
+    own = list(weights.s + weights.t)
+    for one in seen:
+        own[one.part] += one.weight
+    return tuple(own)
 
 
-def matrix_of(last: int, weights: Weights) -> tuple[tuple[int, ...], ...]:
-    own = own_weights_of(last, weights)
+def matrix_of(own: Sequence[int], g: tuple[int, ...]) -> tuple[tuple[int, ...], ...]:
+    """D on the diagonal, and what two parts share."""
+    return tuple(row[:k] + (own[k] + row[k],) + row[k + 1:] for k, row in enumerate(shares_of(g)))
+
+
+@lru_cache(maxsize=16)  # the same with every strike
+def shares_of(g: tuple[int, ...]) -> tuple[tuple[int, ...], ...]:
+    """By row and column: the g of the ratios y that two parts have in common, taken off between a phi and a psi."""
+    last = len(g)
 
     def shared(k: int) -> int:
         """The sum of g_i for i <= k; nothing for k = -1, which is how phi 0 shares in no g."""
-        return sum(weights.g[:k + 1])
+        return sum(g[:k + 1])
 
     def entry(row: int, column: int) -> int:
-        diagonal = own[row] if row == column else 0
         if row <= last and column <= last:
-            return diagonal + shared(min(row, column) - 1)
+            return shared(min(row, column) - 1)
         if row > last and column > last:
-            return diagonal + shared(min(row, column) - (last + 1))
+            return shared(min(row, column) - (last + 1))
         phi, psi = min(row, column), max(row, column) - (last + 1)
         return -shared(min(phi - 1, psi))
 
-    parts = range(len(own))
+    parts = range(2 * last + 1)
     return tuple(tuple(entry(row, column) for column in parts) for row in parts)
 
 
-def right_hand_side_of(file: File, weights: Weights, observations: Observations) -> tuple[int, ...]:
+def right_hand_side_of(file: File, weights: Weights, seen: Sequence[Seen], y: Sequence[int | None]) -> tuple[int, ...]:
     last = file.last
-    x, z, y = observations.x, observations.z, observations.y
+    right = [prior * mean for prior, mean in zip(weights.s + weights.t, file.prior_means)]
+    for one in seen:
+        right[one.part] += one.weight * one.ticks
 
     def to_come(first_year: int) -> int:
         return sum(weights.g[last - i] * y[i] for i in range(first_year, last + 1))
 
-    def phi(j: int) -> int:
-        own = weights.p[j] * sum(x[i][j] for i in range(last - j + 1))
-        return weights.s[j] * file.prior_means[j] + own + to_come(last - j + 1)
-
-    def psi(j: int) -> int:
-        own = weights.q[j] * sum(z[i][j] for i in range(last - j))
+    for j in range(last + 1):
+        right[j] += to_come(last - j + 1)
+    for j in range(last):
         # The sum starts at J-j, as the proof of Theorem 3.4 has it, not at J-1 as the theorem reads.
-        return weights.t[j] * file.prior_means[last + 1 + j] + own - to_come(last - j)
+        right[last + 1 + j] -= to_come(last - j)
+    return tuple(right)
 
-    return tuple(map(phi, range(last + 1))) + tuple(map(psi, range(last)))
 
-
-def figures_of(file: File) -> Figures:
-    weights = weights_of(file)
+def figures_of(file: File, struck: Steps = NONE) -> Figures:
+    """Of the observations that are left. The ratios y and their weights g stay: a strike takes out a step, and no amount."""
+    weights, observations = weights_of(file), observations_of(file)
+    seen = seen_of(file, weights, observations, struck)
+    own = own_weights_of(weights, seen)
     return Figures(
         closeness=file.closeness,
-        own=own_weights_of(file.last, weights),
-        matrix=matrix_of(file.last, weights),
-        right_hand_side=right_hand_side_of(file, weights, observations_of(file)),
+        own=own,
+        matrix=matrix_of(own, weights.g),
+        right_hand_side=right_hand_side_of(file, weights, seen, observations.y),
     )
 
 

@@ -9,7 +9,8 @@ from collections.abc import Iterator, Sequence
 from typing import NamedTuple
 
 from chain import Observations, Weights, observations_of, weights_of
-from layout import File
+from layout import INCURRED, PAID, File
+from strikes import NONE, Step, Steps
 
 
 class Square(NamedTuple):
@@ -24,23 +25,25 @@ class Square(NamedTuple):
         return sum(coefficient * u[part] for part, coefficient in self.coefficients.items()) - m * self.target
 
 
-def squares_of(file: File) -> list[Square]:
-    """The terms of the loss, in the order of the specification."""
+def squares_of(file: File, struck: Steps = NONE) -> list[Square]:
+    """The terms of the loss, in the order of the specification; a struck step has none."""
     weights, observations = weights_of(file), observations_of(file)
     return [
-        *_own_squares(file.last, weights, observations),
+        *_own_squares(file.last, weights, observations, struck),
         *_shared_squares(file.last, weights, observations),
         *_prior_squares(file, weights),
     ]
 
 
-def _own_squares(last: int, weights: Weights, observations: Observations) -> Iterator[Square]:
-    for row in observations.x:
+def _own_squares(last: int, weights: Weights, observations: Observations, struck: Steps) -> Iterator[Square]:
+    for i, row in enumerate(observations.x):
         for j, x in enumerate(row):
-            yield Square(weights.p[j], {j: 1}, x)
-    for row in observations.z:
+            if Step(PAID, i, j) not in struck:
+                yield Square(weights.p[j], {j: 1}, x)
+    for i, row in enumerate(observations.z):
         for j, z in enumerate(row):
-            yield Square(weights.q[j], {last + 1 + j: 1}, z)
+            if Step(INCURRED, i, j) not in struck:
+                yield Square(weights.q[j], {last + 1 + j: 1}, z)
 
 
 def _shared_squares(last: int, weights: Weights, observations: Observations) -> Iterator[Square]:

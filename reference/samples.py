@@ -9,6 +9,7 @@ from layout import (
     AMOUNT_LIMITS, CLOSENESS_LIMITS, FLAT, MEAN_LIMITS, PRIOR_VARIANCE_LIMITS, VARIANCE_LIMITS, File, Triangle,
 )
 from scales import TICKS_PER_DOUBLING as T
+from strikes import Steps, columns_of
 
 CLOSENESSES = (1, 2, 64, 256, 65_536)
 
@@ -201,6 +202,16 @@ def drawn_yen_file(rng: Random, last: int | None = None) -> File:
 
 def drawn_any_file(rng: Random, last: int | None = None) -> File:
     return rng.choice((drawn_file, drawn_flat_file, drawn_yen_file))(rng, last)
+
+
+def drawn_strikes(rng: Random, last: int) -> Steps:
+    """Few steps, about half of them, or all but one of each column; one of each, whichever it is, is left."""
+    share = rng.choice((0.1, 0.5, 1.0))
+    struck = set()
+    for column in columns_of(last):
+        kept = rng.choice(column)
+        struck |= {step for step in column if step != kept and rng.random() < share}
+    return frozenset(struck)
 
 
 def mild_file(rng: Random, last: int) -> File:

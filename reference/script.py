@@ -48,6 +48,9 @@ def _call(letter: bytes, script: BinaryIO, state: session.State) -> tuple[list[s
             return _lines_with_buffer(*session.page(state, LENT_BYTE * _length(script))), state
         case b"u":
             return [_line(session.ultimate(state, _number(script)))], state
+        case b"k":
+            answer, state = session.strike(state, _number(script), _number(script), _number(script))
+            return [_line(answer)], state
         case b"f":
             return _figures_lines(session.figures(state)), state
         case b"w":
@@ -77,6 +80,8 @@ def _line(answer: object) -> str:
             return "page"
         case Ultimate(floor, remainder):
             return f"ultimate {floor} {remainder}"
+        case session.Struck():
+            return "struck"
     raise TypeError(f"not an answer: {answer!r}")
 
 

@@ -1,18 +1,20 @@
 """Specification, "The calls" and "Refusals": the machine, call by call.
 
-The state is EMPTY, or the accepted file with its figures, the mean and the total. A call takes the state and
-gives its answer with the state afterwards. A state is never changed in place, so a refused call gives back
-the very state it was handed.
+The state is EMPTY, or the accepted file, the struck steps, the figures of what is left, the mean and the total. A
+call takes the state and gives its answer with the state afterwards. A state is never changed in place, so a refused
+call gives back the very state it was handed.
 """
 
 from collections.abc import Callable
-from dataclasses import dataclass
+from dataclasses import dataclass, replace
 from typing import TypeVar
 
 import chain
 import layout
+import strikes
 from layout import File, Refusal
 from page import build_page
+from strikes import NONE, Step, Steps
 from ultimate import Ultimate, ultimate_of
 
 MOST_SWEEPS = 4_096
@@ -27,6 +29,7 @@ class Held:
     figures: chain.Figures
     mean: tuple[int, ...]
     total: int
+    struck: Steps = NONE
 
     def residues(self) -> list[int]:
         return chain.residues_of(self.figures, self.mean)
@@ -75,6 +78,11 @@ class Paged:
 
 
 @dataclass(frozen=True)
+class Struck:
+    """The step is out."""
+
+
+@dataclass(frozen=True)
 class Shown:
     pass
 
@@ -86,7 +94,23 @@ def open_file(state: State, lent: bytes) -> tuple[Opened | Refusal, State]:
     file = layout.read_file(lent)
     if isinstance(file, Refusal):
         return file, state
-    return Opened(), Held(file, chain.figures_of(file), file.prior_means, 0)
+    return Opened(), _from_the_start(file, NONE)
+
+
+def _from_the_start(file: File, struck: Steps) -> Held:
+    """At the prior means, with no sweep run."""
+    return Held(file, chain.figures_of(file, struck), file.prior_means, 0, struck)
+
+
+def strike(state: State, channel: int, year: int, column: int) -> tuple[Struck | Refusal, State]:
+    """21, 14, 26, 27. A mean found with the step is none of the loss without it, so all begins anew."""
+    if state is EMPTY:
+        return Refusal(21), state
+    step = Step(channel, year, column)
+    refusal = strikes.refusal_of(state.file.last, state.struck, step)
+    if refusal is not None:
+        return refusal, state
+    return Struck(), _from_the_start(state.file, state.struck | {step})
 
 
 def judge(state: State, lent: bytes) -> Passed | Fails | Refusal:
@@ -122,7 +146,7 @@ def _run_sweeps(state: Held, number: int) -> tuple[Settled | Going, Held]:
         chain.sweep_once(figures, mean, residues)
         total += 1
         passes = chain.first_failing_part(figures, residues) is None
-    after = Held(state.file, figures, tuple(mean), total)
+    after = replace(state, mean=tuple(mean), total=total)
     return (Settled(total) if passes else Going(total)), after
 
 

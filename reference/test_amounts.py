@@ -12,6 +12,7 @@ from listing import listing
 from samples import amounts_of
 from scales import TICKS_PER_DOUBLING as T
 from scales import logarithm
+from strikes import NONE, Steps
 
 LARGEST = 1 << 44
 LOGARITHM = 46_137_344
@@ -30,9 +31,9 @@ def sums_of(file: File) -> list[int]:
     return [sum(year[j] for year in table if j < len(year)) for table in (seen.x, seen.z) for j in range(file.last + 1)]
 
 
-def sizes_of(file: File) -> dict[str, int]:
+def sizes_of(file: File, struck: Steps = NONE) -> dict[str, int]:
     """The largest of each kind of number that the desk makes of a file; for each part a mean at the limits makes its residue large."""
-    figures = chain.figures_of(file)
+    figures = chain.figures_of(file, struck)
     means = [[LARGEST_MEAN if entry < 0 else -LARGEST_MEAN for entry in row] for row in figures.matrix]
     residues = [chain.residues_of(figures, mean) for mean in means]
     return {
@@ -128,6 +129,16 @@ class Sizes(unittest.TestCase):
             sizes = sizes_of(file)
             self.assertTrue(all(sizes[name] <= most for name, most in MOST.items()), sizes)
         self.assertLess(MOST["divided"], 1 << 63)
+
+    def test_nor_with_strikes(self) -> None:
+        """Of some steps the sum can be larger than of all, which cancel; never than is promised of all."""
+        rng = Random(64)
+        grown = 0
+        for file in [samples.drawn_any_file(rng) for _ in range(40)] + [samples.largest_figures(15), samples.largest_steps(15)]:
+            whole, sizes = sizes_of(file), sizes_of(file, samples.drawn_strikes(rng, file.last))
+            self.assertTrue(all(sizes[name] <= most for name, most in MOST.items()), sizes)
+            grown += sizes["right-hand side"] > whole["right-hand side"]
+        self.assertGreater(grown, 0)
 
 
 if __name__ == "__main__":

@@ -12,6 +12,8 @@ import samples
 import session
 from layout import File
 from scales import TICKS_PER_DOUBLING as T
+from strikes import NONE, Steps
+from vectors_drawn import opened
 
 
 def without_noise(rng: Random, drawn: File) -> tuple[File, list[int]]:
@@ -30,10 +32,9 @@ def without_noise(rng: Random, drawn: File) -> tuple[File, list[int]]:
     return file, [T * part for part in phi + psi]
 
 
-def passing_means(rng: Random, file: File, figures: chain.Figures) -> list[tuple[int, ...]]:
+def passing_means(rng: Random, file: File, struck: Steps, figures: chain.Figures) -> list[tuple[int, ...]]:
     """The settled mean, if it settles, and means near it that pass as well."""
-    _, state = session.open_file(session.EMPTY, layout.build_file(file))
-    answer, state = session.sweep(state, 200)
+    answer, state = session.sweep(opened(file, struck), 200)
     if not isinstance(answer, session.Settled):
         return []
     means = [state.mean]
@@ -48,10 +49,17 @@ def passing_means(rng: Random, file: File, figures: chain.Figures) -> list[tuple
 class Guarantee(unittest.TestCase):
     draw = staticmethod(samples.drawn_file)
 
+    def strike(self, _rng: Random, _last: int) -> Steps:
+        """The steps that are struck; here none."""
+        return NONE
+
+    def drawn_figures(self, rng: Random, last: int) -> chain.Figures:
+        return chain.figures_of(self.draw(rng, last), self.strike(rng, last))
+
     def test_exact_solution_has_zero_residue(self) -> None:
         rng = Random(21)
         for last in range(1, 16):
-            figures = chain.figures_of(self.draw(rng, last))
+            figures = self.drawn_figures(rng, last)
             u, m = exact.solve(figures.matrix, figures.right_hand_side)
             self.assertGreaterEqual(m, 1)
             self.assertEqual(chain.residues_of(figures, u, m), [0] * len(u))
@@ -60,11 +68,11 @@ class Guarantee(unittest.TestCase):
         rng = Random(22)
         tried = 0
         for last in [1, 2, 3, 4] * 12 + [8, 15]:
-            file = self.draw(rng, last)
-            figures, squares = chain.figures_of(file), loss.squares_of(file)
+            file, struck = self.draw(rng, last), self.strike(rng, last)
+            figures, squares = chain.figures_of(file, struck), loss.squares_of(file, struck)
             u, m = exact.solve(figures.matrix, figures.right_hand_side)
             allowed = figures.closeness**2 * sum(figures.own)
-            for mean in passing_means(rng, file, figures):
+            for mean in passing_means(rng, file, struck, figures):
                 tried += 1
                 self.assertLessEqual(loss.distance_of(figures.own, mean, u, m), m * m * allowed)
                 here = loss.loss_of(squares, mean)
@@ -79,7 +87,7 @@ class Guarantee(unittest.TestCase):
         """The other way round: beyond the bound of nearness nothing passes."""
         rng = Random(23)
         for last in (1, 2, 3, 6):
-            figures = chain.figures_of(self.draw(rng, last))
+            figures = self.drawn_figures(rng, last)
             u, m = exact.solve(figures.matrix, figures.right_hand_side)
             far = [part + 2 * figures.closeness for part in exact.rounded(u, m)]
             beyond = m * m * figures.closeness**2 * sum(figures.own)
@@ -90,7 +98,7 @@ class Guarantee(unittest.TestCase):
         rng = Random(24)
         failing_at_one = 0
         for last in [*range(1, 16)] * 2:
-            figures = chain.figures_of(replace(self.draw(rng, last), closeness=256))
+            figures = replace(self.drawn_figures(rng, last), closeness=256)
             u, m = exact.solve(figures.matrix, figures.right_hand_side)
             near = exact.rounded(u, m)
             for part, whole in zip(u, near):
@@ -105,7 +113,8 @@ class Guarantee(unittest.TestCase):
         rng = Random(25)
         for last in range(1, 16):
             file, mean = without_noise(rng, self.draw(rng, last))
-            figures, squares = chain.figures_of(file), loss.squares_of(file)
+            struck = self.strike(rng, last)
+            figures, squares = chain.figures_of(file, struck), loss.squares_of(file, struck)
             self.assertEqual(chain.residues_of(figures, mean), [0] * len(mean))
             least = loss.loss_of(squares, mean)
             for part in range(len(mean)):
@@ -126,9 +135,9 @@ class Guarantee(unittest.TestCase):
             incurred=((1 << 12, 1 << 11), (1 << 11,)),
         ))
 
-    def assert_strictly_least(self, file: File) -> None:
+    def assert_strictly_least(self, file: File, struck: Steps = NONE) -> None:
         """Of a file in which (10T, T, -T) has zero residue and is off by a doubling twice."""
-        figures, squares, mean = chain.figures_of(file), loss.squares_of(file), (10 * T, T, -T)
+        figures, squares, mean = chain.figures_of(file, struck), loss.squares_of(file, struck), (10 * T, T, -T)
         self.assertEqual(chain.residues_of(figures, mean), [0, 0, 0])
         least = loss.loss_of(squares, mean)
         self.assertEqual(least, 2 * 65_536 * T * T)

@@ -118,7 +118,9 @@ class Script(unittest.TestCase):
             + b"p" + struct.pack(">I", 85) + b"p" + struct.pack(">I", 3) + b"u" + struct.pack(">I", 1) + b"u" + struct.pack(">I", 2) + b"f"
             + b"w" + string(F) + struct.pack(">II", 1, 0) + b"w" + string(F) + struct.pack(">II", 0, 2)
             + b"c" + b"f" + b"r" + struct.pack(">I", 0) + b"p" + struct.pack(">I", 1) + b"o" + string(build_file(samples.many_sweeps(2)))
-            + b"s" + struct.pack(">I", 1) + b"p" + struct.pack(">I", 0) + b"c"
+            + b"s" + struct.pack(">I", 1) + b"p" + struct.pack(">I", 0)
+            + b"k" + struct.pack(">III", 1, 1, 0) + b"s" + struct.pack(">I", 1) + b"k" + struct.pack(">III", 1, 1, 0)
+            + b"k" + struct.pack(">III", 2, 0, 0) + b"k" + struct.pack(">III", 0, 0, 2) + b"c" + b"k" + struct.pack(">III", 0, 0, 0)
         )
         self.assertEqual(answers(given), [
             "refused 21 at 0", "opened", "refused 22 at 0", "passed", "fails 1", "settled 0",
@@ -128,7 +130,8 @@ class Script(unittest.TestCase):
             "right 1374400020480 137440002048 -137440002048",
             "row 00000000000010000000000000000800", "refused 15 at 0",
             "closed", "refused 21 at 0", "refused 21 at 0", "buffer ", "refused 21 at 0", "buffer a5", "opened",
-            "going 1", "refused 24 at 0", "buffer ", "closed",
+            "going 1", "refused 24 at 0", "buffer ", "struck", "going 1", "refused 26 at 0", "refused 14 at 0", "refused 27 at 0",
+            "closed", "refused 21 at 0",
         ])
 
     def test_a_page_leaves_the_session_as_it_was(self) -> None:
@@ -151,6 +154,7 @@ class Script(unittest.TestCase):
             b"o", b"o\0\0\0", b"o" + string(F)[:-1], b"o" + string(bytes(4_097)),
             b"j" + struct.pack(">I", 0xFFFF_FFFF), b"s\0\0\0", b"r" + struct.pack(">I", 4_097),
             b"p", b"p\0\0\0", b"p" + struct.pack(">I", 4_097), b"u", b"u\0\0\0",
+            b"k", b"k\0\0\0", b"k" + bytes(4), b"k" + bytes(8), b"k" + bytes(11),
             b"w" + string(F), b"w" + string(F) + bytes(7),
         ):
             self.assertEqual(answers(b"c" + end), ["closed", "script"], end[:9])

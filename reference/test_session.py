@@ -1,4 +1,4 @@
-"""The machine: every call but the ultimate's, every refusal, every order of refusals, and that a refusal changes nothing."""
+"""The machine: the calls but ultimate and strike, every refusal, every order of refusals, and that a refusal changes nothing."""
 
 import struct
 import unittest

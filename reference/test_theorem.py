@@ -6,18 +6,25 @@ from random import Random
 import chain
 import loss
 import samples
+from strikes import NONE, Steps
 
 
 class ObservationByObservation(unittest.TestCase):
+    def strike(self, _rng: Random, _last: int) -> Steps:
+        """The steps that are struck; here none."""
+        return NONE
+
     def setUp(self) -> None:
         rng = Random(11)
-        self.cases = []
+        self.cases, self.struck = [], []
         for last in range(1, 16):
             for _ in range(4):
                 file = samples.drawn_any_file(rng, last)
                 m = rng.choice((1, 2, 7, rng.randint(1, 1 << 40)))
                 u = [rng.randint(-m << 27, m << 27) for _ in file.prior_means]
-                self.cases.append((chain.figures_of(file), loss.squares_of(file), u, m))
+                struck = self.strike(rng, last)
+                self.cases.append((chain.figures_of(file, struck), loss.squares_of(file, struck), u, m))
+                self.struck.append(struck)
 
     def test_residues(self) -> None:
         for figures, squares, u, m in self.cases:
@@ -40,9 +47,9 @@ class ObservationByObservation(unittest.TestCase):
                 self.assertEqual(above + below - 2 * here, 2 * m * m * figures.matrix[part][part])
 
     def test_number_of_terms(self) -> None:
-        for figures, squares, u, _ in self.cases:
+        for (_, squares, u, _), struck in zip(self.cases, self.struck):
             last = (len(u) - 1) // 2
-            own = (last + 1) * (last + 2) // 2 + last * (last + 1) // 2
+            own = (last + 1) * (last + 2) // 2 + last * (last + 1) // 2 - len(struck)
             self.assertEqual(len(squares), own + last + (2 * last + 1))
 
     def test_matrix_is_symmetric(self) -> None:

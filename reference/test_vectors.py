@@ -1,5 +1,6 @@
 """The vectors hold what they are for, and the comparison notices what differs."""
 
+import re
 import tempfile
 import unittest
 from pathlib import Path
@@ -25,7 +26,7 @@ class Made(unittest.TestCase):
     def test_every_refusal_number_is_in_the_script(self) -> None:
         lines = self.made["calls/scenes"].printed.decode().splitlines()
         numbers = {int(line.split()[1]) for line in lines if line.startswith("refused")}
-        self.assertEqual(numbers, {*range(1, 16), *range(21, 26)})
+        self.assertEqual(numbers, {*range(1, 16), *range(21, 28)})
         self.assertNotIn("script", lines)
 
     def test_some_hundred_sessions(self) -> None:
@@ -38,6 +39,15 @@ class Made(unittest.TestCase):
         self.assertGreater(len(set(lines)), 50)
         own = sum(vector.printed.count(b"ultimate ") for name, vector in self.made.items() if name.startswith("script/ultimate-"))
         self.assertGreater(own, 400)
+
+    def test_strikes(self) -> None:
+        """In the script of scenes F without a step, and drawn sessions; besides, scripts of their own."""
+        printed = self.made["calls/scenes"].printed.decode()
+        self.assertIn("own 65537 65537 65537\n", printed)
+        self.assertGreater(printed.count("struck\n"), 50)
+        self.assertGreater(len(re.findall(r"struck\nsettled", printed)), 10)
+        own = sum(vector.printed.count(b"struck\n") for name, vector in self.made.items() if name.startswith("script/strike-"))
+        self.assertGreater(own, 3_000)
 
     def test_listings(self) -> None:
         self.assertEqual(self.listing("f")[1], "sweeps 0")
@@ -114,7 +124,7 @@ class Made(unittest.TestCase):
             self.assertEqual(vectors.paths(f"{program}/tables-256"), kept)
 
     def test_small_enough_to_keep(self) -> None:
-        self.assertLess(sum(map(len, vectors.files_of(self.made).values())), 1_700_000)
+        self.assertLess(sum(map(len, vectors.files_of(self.made).values())), 2_000_000)
 
     def test_made_again_they_are_the_same(self) -> None:
         self.assertEqual(vectors.make(vectors.DEFAULT_SEED), self.made)

@@ -51,5 +51,5 @@ def _own_weights_of_every_width() -> File:
     psi = (*islice(cycle(wide), LARGEST_YEAR - 2), 1_000, 100)
     file = samples.at_the_prior((0,) * parts_count(LARGEST_YEAR))
     weights = chain.weights_of(file)
-    observed = (own - prior for own, prior in zip(chain.own_weights_of(LARGEST_YEAR, weights), weights.s + weights.t))
+    observed = (own - prior for own, prior in zip(chain.figures_of(file).own, weights.s + weights.t))
     return replace(file, prior_variances=tuple((1 << 46) // (own - rest) for own, rest in zip(phi + psi, observed)))

@@ -1,6 +1,6 @@
 """The script of calls: scenes of one or more sessions each; a scene starts and ends with nothing open."""
 
-from collections.abc import Callable, Iterable, Iterator
+from collections.abc import Iterable, Iterator
 from dataclasses import replace
 from itertools import pairwise
 from random import Random
@@ -11,20 +11,19 @@ import samples
 import session
 import vectors_amounts
 import vectors_flat_priors
+import vectors_strikes
 from call_bytes import (
-    CLOSE, FIGURES, call_judge, call_open, call_page, call_read, call_row, call_sweep, call_ultimate, number, string,
+    CLOSE, FIGURES, LARGEST_NUMBER, call_judge, call_open, call_page, call_read, call_row, call_strike, call_sweep, call_ultimate, number,
+    string,
 )
-from damage import (
-    SPOIL_FILE, SPOIL_RECORD, drawn_damage, drawn_file_damage, fields_of, pairs_of_spoils, put,
-)
+from damage import SPOIL_FILE, SPOIL_RECORD, drawn_file_damage, fields_of, pairs_of_spoils, put
 from layout import AMOUNT_LIMITS, LARGEST_YEAR, File, build_file, build_record, record_length
 from page import LINE_LENGTH, page_length
 from scales import TICKS_PER_DOUBLING as T
 from script import LONGEST_STRING
 from vectors_board_page import page_files
+from vectors_drawn import drawn_session, records_near, swept
 from vectors_listing import TABLES_CLOSENESSES
-
-LARGEST_NUMBER = (1 << 32) - 1
 
 # 3 is rounded up, 5 down; the exact logarithm of 2,411 is more than half a tick above the desk's. Where y is rounded otherwise than down,
 # at the start, by a bit of 1 or by a bit of 0, the logarithm is another for one of 1,125, 2,411, 31,139, 49,083, 4,294,968,715 and
@@ -64,6 +63,7 @@ def script_of_scenes(seed: int, drawn_sessions: int = 60) -> bytes:
         *(drawn_session(flat, samples.drawn_flat_file) for _ in range(drawn_sessions // 4)),
         *(from_the_prior(file) for file in vectors_amounts.accepted_files().values()),
         *(drawn_session(yen, samples.drawn_yen_file) for _ in range(drawn_sessions // 10)),
+        vectors_strikes.of_document(),
     ]
     return b"".join(call for scene in scenes for call in scene)
 
@@ -88,6 +88,7 @@ def script_ends() -> dict[str, bytes]:
         "page-4097": call_open(f) + call_page(LONGEST_STRING + 1) + CLOSE,
         "end-in-page": call_open(f) + call_page(page_length(1))[:-1],
         "end-in-ultimate": call_open(f) + call_ultimate(1) + call_ultimate(1)[:-1],
+        "end-in-strike": call_open(f) + call_strike(0, 0, 0) + call_strike(0, 1, 0)[:-1],
     }
 
 
@@ -310,80 +311,3 @@ def every_cell() -> Iterator[bytes]:
             for year, column in ((i, j) for i in range(last + 1) for j in range(last - i + 1)):
                 for amount in (AMOUNT_LIMITS[0] - 1, *AMOUNT_LIMITS, AMOUNT_LIMITS[1] + 1, (1 << 64) - 1):
                     yield call_row(put(largest, layout.amount_place(last, channel, year, column), amount, 8), channel, year)
-
-
-# Drawn sessions.
-
-
-def drawn_session(rng: Random, draw: Callable[[Random, int], File] = samples.drawn_file) -> Iterator[bytes]:
-    """Some dozens of calls, mostly on one file of few years, now and then on a longer one."""
-    file = draw(rng, rng.choice((1, 1, 2, 2, 3, 4, 6, rng.randint(1, LARGEST_YEAR))))
-    mean = swept(file, session.MOST_SWEEPS)
-    if rng.randrange(4):
-        yield call_open(build_file(file))
-    for _ in range(rng.randint(8, 30)):
-        yield _drawn_call(rng, file, mean)
-    yield CLOSE
-
-
-def _drawn_call(rng: Random, file: File, mean: tuple[int, ...]) -> bytes:
-    lent, size, page_size = build_file(file), record_length(file.last), page_length(file.last)
-    match rng.choices("ojsrpufwcnd", (2, 12, 12, 8, 4, 5, 1, 2, 1, 2, 3))[0]:
-        case "o":
-            return call_open(lent)
-        case "j":
-            return call_judge(_drawn_record(rng, file, mean))
-        case "s":
-            few, any_number = rng.randint(1, 50), rng.getrandbits(32)
-            return call_sweep(rng.choice((1, 1, 1, 2, 3, few, 4_096, 0, 4_097, any_number)))
-        case "r":
-            return call_read(rng.choice((size - 1, size, size, size + 1, rng.randint(0, 150))))
-        case "p":
-            return call_page(rng.choice((page_size - 1, page_size, page_size, page_size + 1, rng.randint(0, 900))))
-        case "u":
-            year = rng.randint(1, file.last)
-            before = rng.choice((b"", call_sweep(4_096)))  # without which few means pass
-            return before + call_ultimate(rng.choice((year, year, year, 0, file.last + 1, rng.getrandbits(32))))
-        case "f":
-            return FIGURES
-        case "w":
-            channel = rng.choice((0, 0, 1, 1, 2, rng.getrandbits(32)))
-            return call_row(lent, channel, rng.randint(0, file.last + 1))
-        case "c":
-            return CLOSE
-        case "n":  # a new start
-            return CLOSE + call_open(lent)
-    # A damaged file, and the good one behind it: refused if the damage did no harm.
-    return CLOSE + call_open(drawn_file_damage(rng, lent)) + call_open(lent)
-
-
-def _drawn_record(rng: Random, file: File, mean: tuple[int, ...]) -> bytes:
-    match rng.randrange(6):
-        case 0:
-            return build_record(mean)
-        case 1:
-            return build_record(swept(file, rng.randint(1, 3)))
-        case 2:
-            return build_record([rng.randint(-(1 << 26), 1 << 26) for _ in mean])
-        case 3:
-            return drawn_damage(rng, build_record(mean))
-        case _:
-            return rng.choice(records_near(mean, (rng.choice((1, -1, 2, file.closeness, -file.closeness)),)))
-
-
-def swept(file: File, sweeps: int) -> tuple[int, ...]:
-    """The mean held after so many sweeps, or after fewer if it passes."""
-    _, state = session.open_file(session.EMPTY, build_file(file))
-    _, state = session.sweep(state, sweeps)
-    return state.mean
-
-
-def records_near(mean: tuple[int, ...], offsets: Iterable[int]) -> list[bytes]:
-    """Records with one part moved: for each offset the first, a middle and the last part."""
-    records = []
-    for offset in offsets:
-        for part in (0, len(mean) // 2, len(mean) - 1):
-            moved = list(mean)
-            moved[part] += offset
-            records.append(build_record(moved))
-    return records

@@ -6,14 +6,13 @@ from random import Random
 
 import paper
 import samples
-from call_bytes import CLOSE, FIGURES, call_judge, call_open, call_page, call_read, call_sweep, call_ultimate
+from call_bytes import CLOSE, FIGURES, LARGEST_NUMBER, call_judge, call_open, call_page, call_read, call_sweep, call_ultimate
 from layout import (
     AMOUNT_LIMITS, CLOSENESS_LIMITS, LARGEST_YEAR, MEAN_LIMITS, VARIANCE_LIMITS, File, Triangle, build_file, build_record, parts_count,
     record_length,
 )
 from page import page_length
 from scales import TICKS_PER_DOUBLING as T
-from vectors_calls import LARGEST_NUMBER
 
 LEAST, MOST = VARIANCE_LIMITS
 LOWEST, HIGHEST = MEAN_LIMITS
