@@ -20,7 +20,8 @@ README = (ROOT / "README.md").read_text()
 SPECIFICATION = (ROOT / "docs" / "SPECIFICATION.md").read_text()
 HEADER = (ROOT / "include" / "desk.h").read_text()
 SPECS = ROOT / "crates" / "definitions" / "specs"
-DEFINITIONS = "".join((SPECS / f"{name}.antt").read_text() for name in ("Logarithm", "Refusals", "Sweep", "Machine", "Guarantee"))
+DEFINED_IN = ("Logarithm", "Refusals", "Sweep", "Strikes", "Machine", "Guarantee")
+DEFINITIONS = "".join((SPECS / f"{name}.antt").read_text() for name in DEFINED_IN)
 PAGE, LAYOUT = ((SPECS / f"{name}.antt").read_text() for name in ("Page", "Layout"))
 LAW = (ROOT / "crates" / "laws" / "specs" / "Pinned.antt").read_text()
 CALLS = "".join((ROOT / "crates" / source).read_text() for source in ("session/src/calls.rt", "desk/src/exports.rt"))
@@ -199,7 +200,7 @@ class Limits(unittest.TestCase):
 
     def test_of_the_header(self) -> None:
         macros = dict(re.findall(r"^#define (DESK_\w+) (.+?)(?:\s+/\*.*)?$", HEADER, re.MULTILINE))
-        self.assertEqual(macros.pop("DESK_EMPTY"), "{" + ", ".join(["{0}"] * 8) + "}")
+        self.assertEqual(macros.pop("DESK_EMPTY"), "{" + ", ".join(["{0}"] * 9) + "}")
         self.assertEqual(macros.pop("DESK_EMPTY_SESSION"), "((desk_session)DESK_EMPTY)")
         version = ".".join(macros.pop(f"DESK_VERSION_{part}") for part in ("MAJOR", "MINOR", "PATCH"))
         self.assertEqual(macros.pop("DESK_VERSION"), f'"{version}"')

@@ -29,7 +29,7 @@ class Words(unittest.TestCase):
         self.assertEqual(words_of_the_header(), words_of_the_package())
 
     def test_there_are_words_for_every_number(self) -> None:
-        self.assertEqual(list(words_of_the_header()), [*range(1, 16), *range(21, 26)])
+        self.assertEqual(list(words_of_the_header()), [*range(1, 16), *range(21, 28)])
 
 
 if __name__ == "__main__":

@@ -35,12 +35,12 @@ static void test_sizes(void) {
     static const desk_session ZEROS;
     const desk_session s = DESK_EMPTY;
     EXPECT(desk_fits() == 1);
-    EXPECT(desk_size(8) == 0 && desk_size(UINT64_MAX) == 0);
+    EXPECT(desk_size(8) == 496 && desk_size(9) == 0 && desk_size(UINT64_MAX) == 0);
     uint64_t numbers = 0;
-    for (uint64_t array = 0; desk_size(array) != 0; array++) {
+    for (uint64_t array = 0; array < 8; array++) {
         numbers += desk_size(array);
     }
-    EXPECT(sizeof s == 8 * numbers);
+    EXPECT(sizeof s == 8 * numbers + desk_size(8)); /* the marks of steps have one byte each */
     EXPECT(memcmp(&s, &ZEROS, sizeof s) == 0);
 }
 
@@ -192,6 +192,7 @@ static void test_nothing_open(void) {
         EXPECT_REFUSED(&s, desk_sweep(&s, 0).refusal, 21, 0);
         expect_writing_refused(&s, 21);
         EXPECT_REFUSED(&s, desk_figures(&s).refusal, 21, 0);
+        EXPECT_REFUSED(&s, desk_strike(&s, DESK_PAID, 0, 0), 21, 0);
         s = opened_f(1);
         desk_close(&s);
     }

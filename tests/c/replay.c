@@ -84,6 +84,13 @@ static int answers_ultimate(const desk_session *s) {
     return 0;
 }
 
+static int answers_strike(desk_session *s) {
+    const uint32_t channel = number(), year = number(), column = number();
+    const int refused = is_refused(desk_strike(s, channel, year, column));
+    if (!refused) printf("struck\n");
+    return refused;
+}
+
 static void print_numbers(const char *name, const int64_t *numbers, uint64_t count) {
     printf("%s", name);
     for (uint64_t k = 0; k < count; k++) printf(" %" PRId64, numbers[k]);
@@ -122,6 +129,7 @@ static int answers(int letter, desk_session *s) {
     case 'r': return answers_writing(s, desk_read, "read");
     case 'p': return answers_writing(s, desk_page, "page");
     case 'u': return answers_ultimate(s);
+    case 'k': return answers_strike(s);
     case 'f': return answers_figures(s);
     case 'w': return answers_row();
     case 'c': desk_close(s); printf("closed\n"); return 0;

@@ -96,6 +96,20 @@ void expect_ultimates(const desk_session *session, std::size_t last) {
     expect(desk_ultimate(session, last + 1).refusal.number == 25, "no other year has one");
 }
 
+// The first payment of the oldest year out of the averages: its part weighs less, the others as much, and all begins anew.
+void expect_strike(desk_session *session, const desk_system &before) {
+    expect(desk_strike(session, DESK_PAID, 0, 0).number == 0, "a step is struck");
+    const desk_system after = desk_figures(session);
+    expect(after.own[0] < before.own[0] && after.matrix[0][0] < before.matrix[0][0], "its part weighs less");
+    for (std::size_t k = 1; k <= 2 * before.last; k++) expect(after.own[k] == before.own[k], "no other part does");
+    expect(desk_read(session, nullptr, 0).number == 24, "the mean is the prior means again");
+    const desk_sweeping swept = desk_sweep(session, DESK_MOST_SWEEPS);
+    expect(swept.settled == 1 && swept.total > 0, "the mean settles without the step");
+    expect(desk_strike(session, DESK_PAID, 0, 0).number == 26, "a step is struck once");
+    expect(desk_strike(session, DESK_INCURRED, 0, before.last).number == 26, "a step that is not there is not struck");
+    expect(desk_strike(session, DESK_PAID, 0, before.last).number == 27, "nor is the last of its column");
+}
+
 void print_parts(const char *name, const Bytes &record, std::size_t first, std::size_t count) {
     for (std::size_t k = 0; k < count; k++) {
         std::printf("%s %zu %ld\n", name, k, static_cast<long>(field(record, 5 + 4 * (first + k))));
@@ -124,6 +138,7 @@ int main(int count, char **arguments) {
     std::printf("J %zu\nsweeps %llu\n", last, static_cast<unsigned long long>(swept.total));
     print_parts("phi", record, 0, last + 1);
     print_parts("psi", record, last + 1, last);
+    expect_strike(&session, shown);
     desk_close(&session);
     expect(desk_sweep(&session, 1).refusal.number == 21, "nothing is open after a close");
     expect(desk_figures(&session).refusal.number == 21, "nothing is shown after a close");

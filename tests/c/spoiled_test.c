@@ -36,6 +36,27 @@ static void expect_written_alike(const desk_session *s) {
     EXPECT(number == 0 ? found.remainder < found.divisor : found.floor == 0 && found.remainder == 0 && found.divisor == 0);
 }
 
+/* Whatever is marked as struck: a strike is done or refused, by state and channel first. Done, it begins all anew, and the step is out. */
+static void expect_strikes(desk_session *s) {
+    static const uint64_t STRIKE[] = {26, 27, 0};
+    for (int round = 0; round < 6; round++) {
+        const uint64_t channel = drawn() % 3, year = drawn() % 17, column = round < 3 ? drawn() % 3 : drawn();
+        const int is_open = desk_figures(s).refusal.number == 0;
+        const desk_session before = *s;
+        const desk_refusal refusal = desk_strike(s, channel, year, column);
+        EXPECT(refusal.place == 0);
+        EXPECT(!is_open ? refusal.number == 21 : channel == 2 ? refusal.number == 14 : is_one_of(refusal.number, STRIKE));
+        if (refusal.number != 0) {
+            EXPECT(memcmp(&before, s, sizeof before) == 0);
+            continue;
+        }
+        EXPECT(s->held[0] == before.held[0] && s->held[1] == before.held[1] && s->held[2] == 0);
+        EXPECT_REFUSED(s, desk_strike(s, channel, year, column), 26, 0);
+        EXPECT_DONE(desk_figures(s).refusal);
+        expect_written_alike(s);
+    }
+}
+
 /* Of a file with one of its fields spoiled, each of the checks 1 to 10 in turn, an open leaves every byte of the session. */
 static void expect_refused_files(desk_session *s, const uint8_t good[F_LENGTH]) {
     static const struct { size_t at; uint8_t byte; uint64_t number, place; } SPOILED[] = {
@@ -64,6 +85,7 @@ static void expect_answers(desk_session *s) {
     const desk_sweeping swept = desk_sweep(s, drawn() % DESK_MOST_SWEEPS + 1);
     EXPECT(is_one_of(swept.refusal.number, SWEEP));
     EXPECT(swept.refusal.number == 0 || memcmp(&before, s, sizeof before) == 0);
+    expect_strikes(s);
     before = *s;
     const desk_refusal refusal = desk_open(s, file, sizeof file);
     EXPECT(is_one_of(refusal.number, OPEN));
@@ -92,6 +114,12 @@ static void test_arbitrary_sessions(void) {
     for (int round = 0; round < 200; round++) { /* an open session with a byte changed */
         s = opened_f(1 + drawn() % 65536);
         bytes[drawn() % sizeof s] ^= (uint8_t)(1 + drawn() % 255);
+        expect_answers(&s);
+    }
+    for (int round = 0; round < 200; round++) { /* an open session whose observations and marks are anything */
+        s = opened_f(1);
+        for (size_t k = offsetof(desk_session, ticks); k < sizeof s; k++) bytes[k] = (uint8_t)drawn();
+        if (round % 2) memset(s.struck, round % 4 == 1 ? 0xFF : 0, sizeof s.struck);
         expect_answers(&s);
     }
     for (int round = 0; round < 200; round++) { /* one of the fields in use at an extreme */

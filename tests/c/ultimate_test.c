@@ -66,18 +66,19 @@ static void test_refusals(void) {
     EXPECT_REFUSED(&closed, desk_ultimate(&closed, 1).refusal, 21, 0);
 }
 
-/* Logarithms count as at most 2^26 in size, variances as 2^18 to 2^40; weights do not count here. */
+/* Logarithms count as 0 to 44 doublings, variances as 2^18 to 2^40; weights and marks do not count here. */
 static void test_numbers_outside_their_limits(void) {
     desk_session s = opened_f(1);
     s.ticks[2] = INT64_MAX; /* year 1, paid */
     s.variances[1] = UINT64_MAX;
     s.variances[2] = 0;
     memset(s.weights, 0xFF, sizeof s.weights);
-    expect_ultimate(&s, 11534349, UINT64_C(549752406016), UINT64_C(1099511889920));
+    memset(s.struck, 0xFF, sizeof s.struck);
+    expect_ultimate(&s, 11534344, UINT64_C(549753716736), UINT64_C(1099511889920));
     s.ticks[2] = INT64_MIN;
     s.variances[1] = 0;
     s.variances[2] = UINT64_MAX;
-    expect_ultimate(&s, -66060270, UINT64_C(549751095296), UINT64_C(1099511889920));
+    expect_ultimate(&s, 1048578, UINT64_C(549755289600), UINT64_C(1099511889920));
 }
 
 int main(void) {
