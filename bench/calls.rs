@@ -8,7 +8,7 @@ mod proved_desk;
 mod safe_desk;
 
 use proved_desk::{Held, Projected, System, Told, DONE};
-use safe_desk::{Figures, Judgement, Session, Sweeping, Ultimate, PARTS};
+use safe_desk::{Figures, Judgement, Session, Sweeping, Ultimate, MARKS, PARTS};
 use std::hint::black_box;
 use std::process::{Command, Stdio};
 use std::time::Instant;
@@ -20,12 +20,14 @@ const LONGEST_RECORD: usize = 129;
 const LONGEST_PAGE: usize = 868;
 const INCURRED: usize = 1;
 
-const CALLS: [&str; 9] = ["open", "judge", "one sweep", "sweep until settled", "read", "page", "ultimate", "figures", "row"];
+const CALLS: [&str; 10] = ["open", "strike", "judge", "one sweep", "sweep until settled", "read", "page", "ultimate", "figures", "row"];
 
 /// What is timed of either desk; an answer is asserted, not used.
 trait Desk {
     fn empty() -> Self;
     fn open_anew(&mut self, file: &[u8]);
+    /// The first paid step of the oldest year, whatever was struck before.
+    fn strike_anew(&mut self);
     fn judge_passes(&self, record: &[u8]);
     fn sweep_from(&mut self, start: &Start, n: u64) -> u64;
     fn read_into(&self, buffer: &mut [u8]);
@@ -47,6 +49,10 @@ impl Desk for Held {
     fn open_anew(&mut self, file: &[u8]) {
         self.close();
         assert_eq!(self.open(file), DONE);
+    }
+    fn strike_anew(&mut self) {
+        self.struck = [0; MARKS];
+        assert_eq!(self.strike(0, 0, 0), DONE);
     }
     fn judge_passes(&self, record: &[u8]) {
         assert_eq!(self.judge(record), Told { refusal: DONE, flag: 1, value: 0 });
@@ -93,6 +99,10 @@ impl Desk for Session {
         self.close();
         assert_eq!(self.open(file), Ok(()));
     }
+    fn strike_anew(&mut self) {
+        self.forget_marks();
+        assert_eq!(self.strike(0, 0, 0), Ok(()));
+    }
     fn judge_passes(&self, record: &[u8]) {
         assert_eq!(self.judge(record), Ok(Judgement::Passed));
     }
@@ -127,9 +137,10 @@ impl Desk for Session {
     }
 }
 
-/// A desk with a file open, and the same settled.
+/// A desk with a file open, the same with a step struck, and the same settled.
 struct Ready<D> {
     desk: D,
+    struck: D,
     start: Start,
     settled: D,
     total: u64,
@@ -137,13 +148,15 @@ struct Ready<D> {
 
 impl<D: Desk> Ready<D> {
     fn new(file: &[u8]) -> Self {
-        let (mut desk, mut settled) = (D::empty(), D::empty());
+        let (mut desk, mut struck, mut settled) = (D::empty(), D::empty(), D::empty());
         desk.open_anew(file);
+        struck.open_anew(file);
+        struck.strike_anew();
         settled.open_anew(file);
         let start = desk.start();
         let total = settled.sweep_from(&start, 4096);
         assert!(total > 1, "the sample needs more than one sweep");
-        Ready { desk, start, settled, total }
+        Ready { desk, struck, start, settled, total }
     }
 
     fn run(&mut self, call: &str, file: &[u8], record: &[u8], times: u64) {
@@ -151,6 +164,7 @@ impl<D: Desk> Ready<D> {
         for _ in 0..times {
             match call {
                 "open" => self.desk.open_anew(black_box(file)),
+                "strike" => black_box(&mut self.struck).strike_anew(),
                 "judge" => self.desk.judge_passes(black_box(record)),
                 "read" => self.settled.read_into(black_box(&mut buffer)),
                 "page" => self.settled.page_into(black_box(&mut buffer)),
@@ -178,6 +192,8 @@ impl Pair {
         let (proved, plain) = (Ready::<Held>::new(&file), Ready::<Session>::new(&file));
         assert_eq!((proved.start, proved.total), (plain.start, plain.total));
         assert_eq!(proved.desk.figures_shown(), plain.desk.figures_shown());
+        assert_eq!(proved.struck.figures_shown(), plain.struck.figures_shown());
+        assert_ne!(proved.struck.figures_shown(), proved.desk.figures_shown());
         let (mut record, mut other) = (vec![0; LONGEST_RECORD], vec![0; LONGEST_RECORD]);
         proved.settled.read_into(&mut record);
         plain.settled.read_into(&mut other);

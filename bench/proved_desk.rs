@@ -1,6 +1,6 @@
 //! The proved desk: the session and the answers of include/desk.h, and its calls over the library.
 
-use super::safe_desk::{PARTS, TICKS, WEIGHTS};
+use super::safe_desk::{MARKS, PARTS, TICKS, WEIGHTS};
 
 pub type Weights = [u64; PARTS];
 pub type Matrix = [i64; PARTS * PARTS];
@@ -17,6 +17,7 @@ pub struct Held {
     pub ticks: [i64; TICKS],
     pub weights: [u64; WEIGHTS],
     pub variances: Weights,
+    pub struck: [u8; MARKS],
 }
 
 #[repr(C)]
@@ -64,7 +65,12 @@ pub struct Shown {
 extern "C" {
     fn desk_open_lent(
         held: &mut [u64; 3], own: &mut Weights, matrix: &mut Matrix, right_hand: &mut Vector, mean: &mut Vector,
-        ticks: &mut [i64; TICKS], weights: &mut [u64; WEIGHTS], variances: &mut Weights, file: *const u8, length: usize,
+        ticks: &mut [i64; TICKS], weights: &mut [u64; WEIGHTS], variances: &mut Weights, struck: &mut [u8; MARKS], file: *const u8,
+        length: usize,
+    ) -> Refusal;
+    fn desk_strike_lent(
+        held: &mut [u64; 3], own: &mut Weights, matrix: &mut Matrix, right_hand: &mut Vector, mean: &mut Vector,
+        ticks: &mut [i64; TICKS], weights: &mut [u64; WEIGHTS], struck: &mut [u8; MARKS], channel: u64, year: u64, column: u64,
     ) -> Refusal;
     fn desk_judge_lent(
         held: &[u64; 3], own: &Weights, matrix: &Matrix, right_hand: &Vector, mean: &Vector, record: *const u8, length: usize,
@@ -98,12 +104,13 @@ impl Held {
             ticks: [0; TICKS],
             weights: [0; WEIGHTS],
             variances: [0; PARTS],
+            struck: [0; MARKS],
         }
     }
     pub fn open(&mut self, file: &[u8]) -> Refusal {
-        // SAFETY: the pointer is the slice's, valid for its length; the arrays are eight different fields.
-        let Held { held, own, matrix, right_hand, mean, ticks, weights, variances } = self;
-        unsafe { desk_open_lent(held, own, matrix, right_hand, mean, ticks, weights, variances, file.as_ptr(), file.len()) }
+        // SAFETY: the pointer is the slice's, valid for its length; the arrays are nine different fields.
+        let Held { held, own, matrix, right_hand, mean, ticks, weights, variances, struck } = self;
+        unsafe { desk_open_lent(held, own, matrix, right_hand, mean, ticks, weights, variances, struck, file.as_ptr(), file.len()) }
     }
     pub fn judge(&self, record: &[u8]) -> Told {
         // SAFETY: as above.
@@ -125,6 +132,11 @@ impl Held {
         let Held { held, own, matrix, right_hand, mean, ticks, variances, .. } = self;
         // SAFETY: the arrays are seven different fields.
         unsafe { desk_ultimate_lent(held, own, matrix, right_hand, mean, ticks, variances, year) }
+    }
+    pub fn strike(&mut self, channel: u64, year: u64, column: u64) -> Refusal {
+        let Held { held, own, matrix, right_hand, mean, ticks, weights, struck, .. } = self;
+        // SAFETY: the arrays are eight different fields.
+        unsafe { desk_strike_lent(held, own, matrix, right_hand, mean, ticks, weights, struck, channel, year, column) }
     }
     pub fn figures(&self) -> System {
         // SAFETY: the arrays are five different fields.

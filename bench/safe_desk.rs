@@ -17,6 +17,9 @@ const PRIOR_MEANS: usize = 272;
 pub const TICKS: usize = PRIOR_MEANS + PARTS;
 /// Of the parts' observations, of their priors, of the ratios.
 pub const WEIGHTS: usize = 2 * PARTS + 15;
+/// A mark for each part and accident year.
+const YEARS: usize = 16;
+pub const MARKS: usize = PARTS * YEARS;
 const PAGE_LINE: usize = 28;
 const SWEEP_LIMIT: u64 = 4096;
 
@@ -61,6 +64,7 @@ pub struct Session {
     ticks: [i64; TICKS],
     weights: [u64; WEIGHTS],
     variances: [u64; PARTS],
+    struck: [bool; MARKS],
 }
 
 impl Session {
@@ -76,6 +80,7 @@ impl Session {
             ticks: [0; TICKS],
             weights: [0; WEIGHTS],
             variances: [0; PARTS],
+            struck: [false; MARKS],
         }
     }
 
@@ -93,6 +98,7 @@ impl Session {
             return refuse(22, 0);
         }
         let at = check(file)?;
+        self.struck = [false; MARKS];
         self.observe(file, &at);
         self.set_figures(&at);
         self.mean[..at.parts].copy_from_slice(&self.ticks[PRIOR_MEANS..PRIOR_MEANS + at.parts]);
@@ -133,9 +139,9 @@ impl Session {
         let rank = |k: usize| if k <= last { k } else { k - last };
         for k in 0..at.parts {
             let (column, prior) = (self.weights[k], self.weights[PARTS + k]);
-            let count = if k <= last { last - k + 1 } else { 2 * last + 1 - k };
-            self.own[k] = prior + count as u64 * column;
-            let sum = observations(&self.ticks, at, k, count);
+            let struck = &self.struck[YEARS * k..YEARS * k + steps(last, k)];
+            self.own[k] = prior + left(struck) * column;
+            let sum = observations(&self.ticks, at, k, struck);
             let shared = if k <= last { ratios[rank(k)] } else { -ratios[rank(k)] };
             self.right_hand[k] = prior as i64 * self.ticks[PRIOR_MEANS + k] + column as i64 * sum + shared;
             for l in 0..at.parts {
@@ -144,6 +150,39 @@ impl Session {
                 self.matrix[PARTS * k + l] = if k == l { entry + self.own[k] as i64 } else { entry };
             }
         }
+    }
+
+    #[inline(never)]
+    pub fn strike(&mut self, channel: u64, year: u64, column: u64) -> Result<(), Refusal> {
+        if self.last == 0 {
+            return refuse(21, 0);
+        }
+        if channel > 1 {
+            return refuse(14, 0);
+        }
+        let last = self.last;
+        if year.checked_add(column).and_then(|sum| sum.checked_add(channel)).map_or(true, |sum| sum > last as u64) {
+            return refuse(26, 0);
+        }
+        let part = if channel == 0 { column as usize } else { last + 1 + column as usize };
+        let struck = &mut self.struck[YEARS * part..YEARS * part + steps(last, part)];
+        if struck[year as usize] {
+            return refuse(26, 0);
+        }
+        if left(struck) == 1 {
+            return refuse(27, 0);
+        }
+        struck[year as usize] = true;
+        let at = Layout::new(last);
+        self.set_figures(&at);
+        self.mean[..at.parts].copy_from_slice(&self.ticks[PRIOR_MEANS..PRIOR_MEANS + at.parts]);
+        self.total = 0;
+        Ok(())
+    }
+
+    /// For a measurement: as if nothing were struck, but that the figures stay.
+    pub fn forget_marks(&mut self) {
+        self.struck = [false; MARKS];
     }
 
     fn residues(&self, mean: &[i64; PARTS]) -> [i64; PARTS] {
@@ -325,15 +364,30 @@ impl Session {
     }
 }
 
-fn observations(logs: &[i64; TICKS], at: &Layout, k: usize, count: usize) -> i64 {
+/// How many observations a part has of its own.
+fn steps(last: usize, k: usize) -> usize {
+    if k <= last {
+        last - k + 1
+    } else {
+        2 * last + 1 - k
+    }
+}
+
+fn left(struck: &[bool]) -> u64 {
+    struck.iter().filter(|&&mark| !mark).count() as u64
+}
+
+fn observations(logs: &[i64; TICKS], at: &Layout, k: usize, struck: &[bool]) -> i64 {
     let mut cell = match k {
         0 => 0,
         _ if k <= at.last => k - 1,
         _ => at.cells + k - at.last - 1,
     };
     let mut sum = 0;
-    for i in 0..count {
-        sum += if k == 0 { logs[cell] } else { logs[cell + 1] - logs[cell] };
+    for (i, &mark) in struck.iter().enumerate() {
+        if !mark {
+            sum += if k == 0 { logs[cell] } else { logs[cell + 1] - logs[cell] };
+        }
         cell += at.last + 1 - i;
     }
     sum

@@ -54,7 +54,7 @@ pub struct Layout {
 }
 
 impl Layout {
-    fn new(last: usize) -> Self {
+    pub fn new(last: usize) -> Self {
         let parts = 2 * last + 1;
         Layout { last, parts, priors: 10 + 8 * parts, amounts: 10 + 20 * parts, cells: (last + 1) * (last + 2) / 2 }
     }

@@ -5,7 +5,8 @@
  *     if (refusal.number != 0) printf("%s, at byte %u\n", desk_refusal_text(refusal.number), (unsigned)refusal.place);
  *
  * docs/SPECIFICATION.md says what each call does: "The file", "The mean record" and "The page" have the bytes, "The calls" the
- * answers, "The central ultimate" its formula, "Refusals" the numbers with their places, and "What is guaranteed" what an answer is worth.
+ * answers, "The central ultimate" its formula, "Struck steps" what a strike leaves, "Refusals" the numbers with their places, and
+ * "What is guaranteed" what an answer is worth.
  *
  * A call does its job or is refused, whatever bytes it is lent and whatever stands in the session. A refused call changes
  * neither the session nor the buffer. The order in which a call tests the numbers is that of its comment below. The library
@@ -28,23 +29,24 @@
 extern "C" {
 #endif
 
-#define DESK_VERSION "2.1.0"
-#define DESK_VERSION_MAJOR 2
-#define DESK_VERSION_MINOR 1
+#define DESK_VERSION "3.0.0"
+#define DESK_VERSION_MAJOR 3
+#define DESK_VERSION_MINOR 0
 #define DESK_VERSION_PATCH 0
 
-#define DESK_PAID UINT64_C(0) /* the channels of a row */
+#define DESK_PAID UINT64_C(0) /* the channels of a row and of a step */
 #define DESK_INCURRED UINT64_C(1)
-#define DESK_MOST_SWEEPS UINT64_C(4096) /* for one open file */
+#define DESK_MOST_SWEEPS UINT64_C(4096) /* since open or the last strike */
 #define DESK_LONGEST_FILE 2806u         /* a file has 10 + 20(2J+1) + 8(J+1)(J+2) bytes */
 #define DESK_LONGEST_RECORD 129u        /* a mean record has 5 + 4(2J+1) bytes */
 #define DESK_LONGEST_PAGE 868u          /* a page has 28(2J+1) bytes */
 
-/* A session, of some 12 KB: empty, or an accepted file's observations and figures with a mean and the sweeps run. The fields are the
- * library's; a session may be copied, and the copy is a session of its own. Bytes that no call has left there count as an empty
- * session or as an open one, and are safe in both cases; the guarantee of a passed mean is for sessions that start as DESK_EMPTY. */
+/* A session, of some 12 KB: empty, or an accepted file's observations, the steps that are struck out of it, the figures of what is
+ * left, a mean and the sweeps run. The fields are the library's; a session may be copied, and the copy is a session of its own. Bytes
+ * that no call has left there count as an empty session or as an open one, and are safe in both cases; the guarantee of a passed mean is
+ * for sessions that start as DESK_EMPTY. */
 typedef struct desk_session {
-    uint64_t held[3]; /* J (0 while nothing is open), closeness, sweeps run since open */
+    uint64_t held[3]; /* J (0 while nothing is open), closeness, sweeps run since open or the last strike */
     uint64_t own[31];
     int64_t matrix[961];
     int64_t right_hand[31];
@@ -52,10 +54,11 @@ typedef struct desk_session {
     int64_t ticks[303];     /* of the file: the logarithms of its amounts; from 272 on its prior means */
     uint64_t weights[77];   /* of its observations; from 31 on of its priors, from 62 on of its ratios */
     uint64_t variances[31]; /* sigma squared, then tau squared */
+    uint8_t struck[496];    /* of part k and accident year i at 16 * k + i, phi first: not 0 where that step is struck */
 } desk_session;
 
 /* The empty session, where one is declared; and as a value, to be assigned or handed on. */
-#define DESK_EMPTY {{0}, {0}, {0}, {0}, {0}, {0}, {0}, {0}}
+#define DESK_EMPTY {{0}, {0}, {0}, {0}, {0}, {0}, {0}, {0}, {0}}
 #ifdef __cplusplus
 #define DESK_EMPTY_SESSION (desk_session{})
 #else
@@ -75,7 +78,7 @@ typedef struct desk_judgement {
     uint64_t part;
 } desk_judgement;
 
-/* Settled is 1, or 0 while still going; total is the number of sweeps run since open. Both are 0 where refused. */
+/* Settled is 1, or 0 while still going; total is the number of sweeps run since open or the last strike. Both are 0 where refused. */
 typedef struct desk_sweeping {
     desk_refusal refusal;
     uint64_t settled;
@@ -98,9 +101,9 @@ typedef struct desk_projection {
     uint64_t divisor;
 } desk_projection;
 
-/* The figures of the open file: J, the closeness, and the own weights, matrix and right-hand side that a mean is judged by. The
- * parts are phi 0..J, then psi 0..J-1. The matrix has both of its halves, row k and column l at matrix[k][l]. Numbers outside
- * the parts 0..2J are 0, and all but the refusal are 0 where refused. */
+/* The figures of the open file without its struck steps: J, the closeness, and the own weights, matrix and right-hand side that a mean
+ * is judged by. The parts are phi 0..J, then psi 0..J-1. The matrix has both of its halves, row k and column l at matrix[k][l].
+ * Numbers outside the parts 0..2J are 0, and all but the refusal are 0 where refused. */
 typedef struct desk_system {
     desk_refusal refusal;
     uint64_t last; /* J */
@@ -112,7 +115,8 @@ typedef struct desk_system {
 
 /* What the library exports. The functions behind them lend it a session's fields one by one. */
 desk_refusal desk_open_lent(uint64_t held[3], uint64_t own[31], int64_t matrix[961], int64_t right_hand[31], int64_t mean[31],
-                            int64_t ticks[303], uint64_t weights[77], uint64_t variances[31], const uint8_t *file, size_t length);
+                            int64_t ticks[303], uint64_t weights[77], uint64_t variances[31], uint8_t struck[496], const uint8_t *file,
+                            size_t length);
 desk_judgement desk_judge_lent(const uint64_t held[3], const uint64_t own[31], const int64_t matrix[961],
                                const int64_t right_hand[31], const int64_t mean[31], const uint8_t *lent, size_t length);
 desk_sweeping desk_sweep_lent(uint64_t held[3], const uint64_t own[31], const int64_t matrix[961], const int64_t right_hand[31],
@@ -126,12 +130,16 @@ desk_projection desk_ultimate_lent(const uint64_t held[3], const uint64_t own[31
                                    const uint64_t variances[31], uint64_t year);
 desk_system desk_figures_lent(const uint64_t held[3], const uint64_t own[31], const int64_t matrix[961],
                               const int64_t right_hand[31], const int64_t mean[31]);
+desk_refusal desk_strike_lent(uint64_t held[3], uint64_t own[31], int64_t matrix[961], int64_t right_hand[31], int64_t mean[31],
+                              int64_t ticks[303], uint64_t weights[77], uint8_t struck[496], uint64_t channel, uint64_t year,
+                              uint64_t column);
 void desk_close_lent(uint64_t held[3]);
 
-/* Opens a file: the session then holds its observations and figures, the prior means as mean and 0 sweeps.
+/* Opens a file: the session then holds its observations and figures, no struck step, the prior means as mean and 0 sweeps.
  * May be refused with 22, then 1 to 10. */
 static inline desk_refusal desk_open(desk_session *s, const uint8_t *file, size_t length) {
-    return desk_open_lent(s->held, s->own, s->matrix, s->right_hand, s->mean, s->ticks, s->weights, s->variances, file, length);
+    return desk_open_lent(s->held, s->own, s->matrix, s->right_hand, s->mean, s->ticks, s->weights, s->variances, s->struck, file,
+                          length);
 }
 
 /* Judges a mean record, whoever wrote it: passed, or the first part that fails. The session is untouched.
@@ -164,8 +172,16 @@ static inline desk_projection desk_ultimate(const desk_session *s, uint64_t year
     return desk_ultimate_lent(s->held, s->own, s->matrix, s->right_hand, s->mean, s->ticks, s->variances, year);
 }
 
-/* Shows the figures of the open file: a mean passes exactly if in each part k the sum of matrix[k][l] times part l, minus
- * right_hand[k], is at most closeness times own[k] in size. The session is untouched. May be refused with 21. */
+/* Strikes a step out of the open file: x (channel 0) or z (1) of an accident year, in a column, which is its development year. Its term
+ * leaves the loss, and with it own weight, matrix and right-hand side; the mean is the prior means again, with 0 sweeps run. All else of
+ * the file stays, as do the steps beside it. No call puts a step back: close forgets what is struck, and open has every step.
+ * May be refused with 21, then 14, 26, 27. */
+static inline desk_refusal desk_strike(desk_session *s, uint64_t channel, uint64_t year, uint64_t column) {
+    return desk_strike_lent(s->held, s->own, s->matrix, s->right_hand, s->mean, s->ticks, s->weights, s->struck, channel, year, column);
+}
+
+/* Shows the figures of the open file without its struck steps: a mean passes exactly if in each part k the sum of matrix[k][l] times
+ * part l, minus right_hand[k], is at most closeness times own[k] in size. The session is untouched. May be refused with 21. */
 static inline desk_system desk_figures(const desk_session *s) {
     return desk_figures_lent(s->held, s->own, s->matrix, s->right_hand, s->mean);
 }
@@ -203,13 +219,15 @@ static inline const char *desk_refusal_text(uint64_t number) {
     case 23: return "all 4,096 sweeps are run and the mean still does not pass";
     case 24: return "the mean that is held does not pass";
     case 25: return "the accident year must be from 1 to J";
+    case 26: return "there is no such step, or it is struck already";
+    case 27: return "it is the last step left in its column";
     default: return "no such refusal";
     }
 }
 
-/* How many numbers an array of a session has in this library, by its place among the fields of desk_session, from 0 on; behind the
- * last one 0. Whoever declares the calls elsewhere than here compares them before the first call: a session that is declared too
- * small would be written behind. */
+/* How many numbers an array of a session has in this library, of whatever width, by its place among the fields of desk_session, from 0
+ * on; behind the last one 0. Whoever declares the calls elsewhere than here compares them before the first call: a session that is
+ * declared too small would be written behind. */
 uint64_t desk_size(uint64_t array);
 
 /* Whether the library that is linked has the sessions of this header: 1, or 0, and then no call that is lent a session is safe. For a
@@ -217,10 +235,15 @@ uint64_t desk_size(uint64_t array);
  * first number, the calls that came later are missing: a program that is linked to it does not start, or ends where it calls one. */
 static inline int desk_fits(void) {
     const desk_session *none = NULL; /* for the sizes of its fields alone */
-    const size_t bytes[] = {sizeof none->held, sizeof none->own,   sizeof none->matrix,  sizeof none->right_hand, sizeof none->mean,
-                            sizeof none->ticks, sizeof none->weights, sizeof none->variances, 0};
-    for (size_t array = 0; array < sizeof bytes / sizeof bytes[0]; array++) {
-        if (desk_size(array) != bytes[array] / sizeof(uint64_t)) return 0;
+    const size_t counts[] = {
+        sizeof none->held / sizeof none->held[0],           sizeof none->own / sizeof none->own[0],
+        sizeof none->matrix / sizeof none->matrix[0],       sizeof none->right_hand / sizeof none->right_hand[0],
+        sizeof none->mean / sizeof none->mean[0],           sizeof none->ticks / sizeof none->ticks[0],
+        sizeof none->weights / sizeof none->weights[0],     sizeof none->variances / sizeof none->variances[0],
+        sizeof none->struck / sizeof none->struck[0],       0,
+    };
+    for (size_t array = 0; array < sizeof counts / sizeof counts[0]; array++) {
+        if (desk_size(array) != counts[array]) return 0;
     }
     return 1;
 }

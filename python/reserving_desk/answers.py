@@ -1,10 +1,10 @@
-"""What the calls answer: section "The calls" of docs/SPECIFICATION.md."""
+"""What the calls answer: sections "The calls" and "Struck steps" of docs/SPECIFICATION.md."""
 
 from __future__ import annotations
 
 from dataclasses import dataclass
 from fractions import Fraction
-from typing import Optional
+from typing import NamedTuple, Optional
 
 from .scales import TICKS_PER_UNIT
 
@@ -22,7 +22,7 @@ class Judgement:
 
 @dataclass(frozen=True)
 class Sweeping:
-    """Whether the mean is settled, and the sweeps run since open. True if it is settled."""
+    """Whether the mean is settled, and the sweeps run since open or the last strike. True if it is settled."""
 
     settled: bool
     total: int
@@ -54,9 +54,17 @@ class Ultimate:
         return float(self.ticks / TICKS_PER_UNIT)
 
 
+class Step(NamedTuple):
+    """What `Session.strike` takes out: x of an accident year in a column, its development year (channel `PAID`), or z (`INCURRED`)."""
+
+    channel: int
+    year: int
+    column: int
+
+
 @dataclass(frozen=True)
 class Figures:
-    """The linear system of the open file, and by how much a mean may miss it.
+    """The linear system of the open file without its struck steps, and by how much a mean may miss it.
 
     A mean passes if `matrix` times its parts is within `closeness` times `own_weights` of `right_hand_side`, part by part. All have
     2J+1 parts, phi first; J is `last`, and `matrix` has its rows, both halves filled.

@@ -8,7 +8,7 @@ from typing import NamedTuple, Optional
 from .arguments import counted
 from .layout import (
     AMOUNT, CHANNELS, FILE_HEADER_LENGTH, HEADER_LENGTH, INCURRED, LENGTH, MOST_SWEEPS, PAID, Field, Unit, amount_name, file_fields,
-    last_year_of, length_of, placed, record_fields,
+    last_year_of, length_of, placed, record_fields, step_count,
 )
 from .library import Refusal
 from .refusals import Refused
@@ -75,12 +75,40 @@ def refused_ultimate(refusal: Refusal, year: int, last: int) -> Refused:
     return Refused(refusal.number, refusal.place, *details)
 
 
+def refused_strike(refusal: Refusal, channel: int, year: int, column: int, last: int) -> Refused:
+    """Of a session whose J is `last`."""
+    details = Details()
+    if refusal.number == 14:
+        details = _channel_outside(channel)
+    elif refusal.number == 26:
+        details = _step_outside(channel, year, column, last)
+    elif refusal.number == 27:
+        details = Details(sentence=f"no other {CHANNELS[channel]} step is left in column {column}")
+    return Refused(refusal.number, refusal.place, *details)
+
+
 def refused_row(refusal: Refusal, file: bytes, channel: int, year: int) -> Refused:
     if refusal.number == 14:
-        return Refused(14, refusal.place, *_outside("channel", channel, f"{PAID} and {INCURRED}"))
+        return Refused(14, refusal.place, *_channel_outside(channel))
     if refusal.number == 15:
         return Refused(15, refusal.place, *_year_outside(year, 0, last_year_of(file)))
     return refused_file(refusal, file)
+
+
+def _channel_outside(channel: int) -> Details:
+    return _outside("channel", channel, f"{PAID} and {INCURRED}")
+
+
+def _step_outside(channel: int, year: int, column: int, last: int) -> Details:
+    """Or struck already, where it is inside."""
+    youngest = step_count(last, channel, 0) - 1  # the last accident year with a step
+    name = CHANNELS[channel]
+    if year > youngest:
+        return _outside("accident year", year, limits(0, youngest), because=f" for {name} steps, as J is {last}")
+    if column > youngest - year:
+        because = f" for {name} steps of accident year {year}, as J is {last}"
+        return _outside("column", column, limits(0, youngest - year), because=because)
+    return Details(sentence=f"the {name} step of accident year {year} in column {column} is struck already")
 
 
 def _year_outside(year: int, first: int, last: int) -> Details:

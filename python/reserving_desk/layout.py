@@ -1,5 +1,5 @@
-"""The fields of a file and of a mean record, in their order, what the desk accepts in each, and how long a page is: sections "The
-file", "The mean record" and "The page" of docs/SPECIFICATION.md.
+"""The fields of a file and of a mean record, in their order, what the desk accepts in each, how long a page is and which steps there
+are: sections "The file", "The mean record", "The page" and "Struck steps" of docs/SPECIFICATION.md.
 
 Each kind of field stands here once: the builders write by it, and a refusal is explained by it.
 """
@@ -14,9 +14,9 @@ from .arguments import sequence, whole, within
 
 VERSION = 1
 LARGEST_YEAR = 15  # J is at most this
-MOST_SWEEPS = 4_096  # for one open file
+MOST_SWEEPS = 4_096  # since open or the last strike
 PAGE_LINE = 28  # bytes of a line of a page, its line feed counted
-PAID, INCURRED = 0, 1  # the channels of a row
+PAID, INCURRED = 0, 1  # the channels of a row and of a step
 CHANNELS = ("paid", "incurred")  # by those numbers
 
 
@@ -130,6 +130,11 @@ def record_length(last: int) -> int:
 def page_length(last: int) -> int:
     """A line for each part."""
     return PAGE_LINE * len(part_names(last))
+
+
+def step_count(last: int, channel: int, column: int) -> int:
+    """How many steps a column has, of accident years 0 on: an incurred row has a step less than amounts, as its first amount is none."""
+    return last - column + (1 if channel == PAID else 0)
 
 
 HEADER_LENGTH = length_of(HEADER)

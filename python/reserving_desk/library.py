@@ -18,6 +18,8 @@ IN_THE_CHECKOUT = Path(__file__).resolve().parents[2] / "target" / "lib" / "libd
 
 ROW_LENGTH = 31  # of the matrix, as the library keeps it
 
+MOST_YEARS = 16  # accident years: so far apart are the marks of two parts among those of struck steps
+
 # The fields of a session, in the order in which they are lent. All zero is the empty session.
 SESSION_FIELDS: dict[str, type[Array[Any]]] = {
     "held": c_uint64 * 3,
@@ -28,7 +30,9 @@ SESSION_FIELDS: dict[str, type[Array[Any]]] = {
     "ticks": c_int64 * 303,
     "weights": c_uint64 * 77,
     "variances": c_uint64 * 31,
+    "struck": c_uint8 * 496,
 }
+NARROW = {"struck": 1}  # the fields whose numbers have fewer than 8 bytes in the library, which tells how many numbers there are
 
 
 class Refusal(Structure):
@@ -63,9 +67,10 @@ class System(Structure):
 
 
 SESSION: list[Any] = [POINTER(field) for field in SESSION_FIELDS.values()]
-HELD = SESSION[:5]  # without the observations, which are open's, and ultimate's as far as it reads them
+HELD = SESSION[:5]  # without the observations, which are open's, and another call's as far as it uses them
 LATEST_FIELDS = ("ticks", "variances")
-LATEST: list[Any] = [POINTER(SESSION_FIELDS[name]) for name in LATEST_FIELDS]
+STEPS_FIELDS = ("ticks", "weights", "struck")
+LATEST, STEPS = ([POINTER(SESSION_FIELDS[name]) for name in names] for names in (LATEST_FIELDS, STEPS_FIELDS))
 LENT: list[Any] = [c_char_p, c_size_t]
 BUFFER: list[Any] = [POINTER(c_uint8), c_size_t]
 
@@ -77,6 +82,7 @@ FUNCTIONS: dict[str, tuple[Any, list[Any]]] = {
     "desk_read_lent": (Refusal, HELD + BUFFER),
     "desk_page_lent": (Refusal, HELD + BUFFER),
     "desk_ultimate_lent": (Projected, HELD + LATEST + [c_uint64]),
+    "desk_strike_lent": (Refusal, HELD + STEPS + [c_uint64] * 3),
     "desk_figures_lent": (System, HELD),
     "desk_row": (Shown, LENT + [c_uint64, c_uint64]),
     "desk_close_lent": (None, SESSION[:1]),
@@ -123,7 +129,7 @@ def load(path: Path) -> ctypes.CDLL:
 
 
 def _differences(size: Callable[[int], int]) -> list[str]:
-    """Where the library keeps to other arrays than the package. Each number of a session has 8 bytes."""
-    fields = [(name, sizeof(field)) for name, field in SESSION_FIELDS.items()]
-    told = [(name, sizeof(c_uint64) * size(place), here) for place, (name, here) in enumerate([*fields, ("what is behind them", 0)])]
+    """Where the library keeps to other arrays than the package."""
+    fields = [*((name, sizeof(field)) for name, field in SESSION_FIELDS.items()), ("what is behind them", 0)]
+    told = [(name, NARROW.get(name, sizeof(c_uint64)) * size(place), here) for place, (name, here) in enumerate(fields)]
     return [f"{name} has {there} bytes there and {here} here" for name, there, here in told if there != here]

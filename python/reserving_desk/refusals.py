@@ -25,6 +25,8 @@ WORDS = {
     23: "all 4,096 sweeps are run and the mean still does not pass",
     24: "the mean that is held does not pass",
     25: "the accident year must be from 1 to J",
+    26: "there is no such step, or it is struck already",
+    27: "it is the last step left in its column",
 }
 
 
@@ -34,7 +36,7 @@ class Refused(Exception):
     `number` and `place` are the desk's, and `words` say what the number means. `field` names the field or the argument that was
     refused, as "paid amount of accident year 1, development year 0"; `value` is the number that stood there (of bytes and of a
     buffer, how many they are), and `limits` say what is allowed. These three are None where a call was refused for the session's
-    state. `details` tell all three in a sentence.
+    state. `details` tell all three in a sentence, or which step is in the session's way.
     """
 
     def __init__(

@@ -3,16 +3,20 @@
 from __future__ import annotations
 
 import threading
-from collections.abc import Callable
+from collections.abc import Callable, Iterator
 from ctypes import Array, c_uint8
 from types import TracebackType
 from typing import Any, NoReturn, Optional, SupportsIndex
 
-from .answers import Figures, Judgement, Sweeping, Ultimate
+from .answers import Figures, Judgement, Step, Sweeping, Ultimate
 from .arguments import Buffer, BytesLike, lent_bytes, not_negative, whole, writable_view
-from .details import refused_buffer, refused_file, refused_record, refused_row, refused_state, refused_sweep, refused_ultimate
-from .layout import AMOUNT, LONGEST_PAGE, LONGEST_RECORD, MOST_SWEEPS, Mean, mean_of, page_length, record_length
-from .library import HELD, LATEST_FIELDS, ROW_LENGTH, SESSION_FIELDS, library_path, load
+from .details import (
+    refused_buffer, refused_file, refused_record, refused_row, refused_state, refused_strike, refused_sweep, refused_ultimate,
+)
+from .layout import (
+    AMOUNT, INCURRED, LONGEST_PAGE, LONGEST_RECORD, MOST_SWEEPS, PAID, Mean, mean_of, page_length, record_length, step_count,
+)
+from .library import HELD, LATEST_FIELDS, MOST_YEARS, ROW_LENGTH, SESSION_FIELDS, STEPS_FIELDS, library_path, load
 
 LARGEST_NUMBER = (1 << 64) - 1  # that the library can be handed
 
@@ -20,6 +24,16 @@ LARGEST_NUMBER = (1 << 64) - 1  # that the library can be handed
 def _handed(number: int) -> int:
     """Beyond what the library can be handed the answer is the same as at its limits."""
     return min(max(number, 0), LARGEST_NUMBER)
+
+
+def _steps_of(marks: bytes, last: int) -> Iterator[Step]:
+    """The steps that are marked as struck. A column marked throughout, which no call leaves, counts as unmarked."""
+    columns = [(PAID, j) for j in range(last + 1)] + [(INCURRED, j) for j in range(last)] if last else []
+    for part, (channel, column) in enumerate(columns):
+        first = MOST_YEARS * part
+        of_column = marks[first:first + step_count(last, channel, column)]
+        if 0 in of_column:
+            yield from (Step(channel, year, column) for year, mark in enumerate(of_column) if mark)
 
 
 class Session:
@@ -35,7 +49,7 @@ class Session:
         self._one_at_a_time = threading.Lock()
 
     def open(self, file: BytesLike) -> None:
-        """Opens a file: the session then holds its observations and figures, its prior means as mean, 0 sweeps.
+        """Opens a file: the session then holds its observations and figures, no struck step, its prior means as mean, 0 sweeps.
 
         Refused with 22, 1 to 10.
         """
@@ -96,15 +110,36 @@ class Session:
         """
         wanted = whole("year", year)
         with self._one_at_a_time:
-            latest = (self._fields[list(SESSION_FIELDS).index(name)] for name in LATEST_FIELDS)
-            found = self._library.desk_ultimate_lent(*self._held(), *latest, _handed(wanted))
+            found = self._library.desk_ultimate_lent(*self._held(), *self._named(LATEST_FIELDS), _handed(wanted))
             last = self._last()
         if found.refusal.number:
             raise refused_ultimate(found.refusal, wanted, last)
         return Ultimate(found.floor, found.remainder, found.divisor)
 
+    def strike(self, channel: int, year: int, column: int) -> None:
+        """Takes a step out of the averages: x of an accident year in a column, its development year (channel 0), or z (channel 1).
+
+        Column 0 of channel 0 is what was paid in the first development year. The loss, the figures and what a mean is worth are those
+        without the step from here on; the mean is the prior means again, and no sweep is run. The amounts stay, and with them the steps
+        beside it, the ratios of incurred to paid, rows and the logarithms of ultimates. No call puts a step back: close the session, and
+        open the file again. Refused with 21, 14, 26, 27.
+        """
+        numbers = (not_negative("channel", channel), not_negative("year", year), not_negative("column", column))
+        with self._one_at_a_time:
+            refusal = self._library.desk_strike_lent(*self._held(), *self._named(STEPS_FIELDS), *map(_handed, numbers))
+            last = self._last()
+        if refusal.number:
+            raise refused_strike(refusal, *numbers, last)
+
+    @property
+    def struck(self) -> tuple[Step, ...]:
+        """The steps that are struck out of the open file, by channel, accident year and column; none where nothing is open."""
+        with self._one_at_a_time:
+            (marks,) = self._named(("struck",))
+            return tuple(sorted(_steps_of(bytes(marks), self._last())))
+
     def figures(self) -> Figures:
-        """The linear system that judges every mean of the open file, for a solver of one's own.
+        """The linear system that judges every mean of the open file without its struck steps, for a solver of one's own.
 
         Solve it with any tool, round each part, and let the desk judge what comes out:
 
@@ -131,13 +166,13 @@ class Session:
         """
         lent = lent_bytes("file", file)
         numbers = (not_negative("channel", channel), not_negative("year", year))
-        shown = self._library.desk_row(lent, len(lent), *(min(number, LARGEST_NUMBER) for number in numbers))
+        shown = self._library.desk_row(lent, len(lent), *map(_handed, numbers))
         if shown.refusal.number:
             raise refused_row(shown.refusal, lent, *numbers)
         return tuple(AMOUNT.number_at(lent, place) for place in range(shown.start, shown.start + shown.length, AMOUNT.width))
 
     def close(self) -> None:
-        """Empties the session, which can be opened again; never refused."""
+        """Empties the session, which can be opened again, with every step; never refused."""
         with self._one_at_a_time:
             self._library.desk_close_lent(self._fields[0])
 
@@ -154,11 +189,15 @@ class Session:
             raise refused_buffer(refusal, size, thing, length, last)
 
     def _held(self) -> tuple[Array[Any], ...]:
-        """What every call is lent that is lent a session: all but the observations."""
+        """What every call is lent that is lent a session: all but the observations and the struck steps."""
         return self._fields[:len(HELD)]
 
+    def _named(self, names: tuple[str, ...]) -> Iterator[Array[Any]]:
+        """What a call is lent besides."""
+        return (self._fields[list(SESSION_FIELDS).index(name)] for name in names)
+
     def _last(self) -> int:
-        """J of the file that is open, for the words of a refusal."""
+        """J of the file that is open, or 0."""
         return int(self._fields[0][0])
 
     def __enter__(self) -> Session:

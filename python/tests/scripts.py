@@ -55,6 +55,9 @@ def _answer(letter: bytes, source: BytesIO, session: Session, buffer: bytearray)
     if letter == b"u":
         ultimate = session.ultimate(_number(source))
         return f"ultimate {ultimate.floor} {ultimate.remainder}"
+    if letter == b"k":
+        session.strike(_number(source), _number(source), _number(source))
+        return "struck"
     if letter == b"f":
         return _system(session.figures())
     if letter == b"w":

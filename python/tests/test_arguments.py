@@ -55,6 +55,9 @@ class OfCalls(Named):
                     call()
             with self.assertRaisesRegex(TypeError, "^year must be a whole number, not "):
                 desk.ultimate(wrong)
+            for place, name in enumerate(("channel", "year", "column")):
+                with self.assertRaisesRegex(TypeError, f"^{name} must be a whole number, not "):
+                    desk.strike(*(wrong if place == k else 0 for k in range(3)))
         self.assert_told(TypeError, "n must be a whole number, not 1.5", desk.sweep, 1.5)
 
     def test_whole_numbers_by_their_index(self) -> None:
@@ -62,10 +65,18 @@ class OfCalls(Named):
         self.assertEqual(opened().sweep(n).total, 0)
         self.assertEqual(opened().row(F, n, n), (1 << 12,))
         self.assertEqual(opened().ultimate(n), opened().ultimate(1))
+        zero: Any = Number(0)
+        desk = opened()
+        desk.strike(zero, n, zero)
+        self.assertEqual(desk.struck, ((0, 1, 0),))
+        self.assertEqual([type(number) for number in desk.struck[0]], [int] * 3)
 
     def test_negative(self) -> None:
         self.assert_told(ValueError, "channel must be at least 0, not -1", Session().row, F, -1, 0)
         self.assert_told(ValueError, "year must be at least 0, not -7", Session().row, F, 0, -7)
+        for place, name in enumerate(("channel", "year", "column")):
+            step = [-1 if place == k else 0 for k in range(3)]
+            self.assert_told(ValueError, f"{name} must be at least 0, not -1", opened().strike, *step)
 
     def test_bytes(self) -> None:
         desk = opened()
@@ -266,6 +277,9 @@ class OfNumpy(unittest.TestCase):
         one, many = self.numpy.int64(1), self.numpy.int64(1 << 20)
         self.assertEqual(opened().sweep(one).total, 0)
         self.assertEqual(opened().row(F, one, one), (1 << 12,))
+        desk = opened()
+        desk.strike(self.numpy.uint8(0), one, self.numpy.int16(0))
+        self.assertEqual(desk.struck, ((0, 1, 0),))
         self.assertEqual((squared_ticks(one), ticks(many), natural_log(many)), (squared_ticks(1), ticks(1 << 20), natural_log(1 << 20)))
         self.assertEqual(Mean(self.numpy.array([1, 2]), self.numpy.array([3])), Mean((1, 2), (3,)))
 

@@ -13,7 +13,7 @@ from refusing import PAGE_OF_F, F, opened, refusal_of
 
 import samples
 from layout import build_file, build_record
-from reserving_desk import Session, Sweeping
+from reserving_desk import PAID, Session, Step, Sweeping
 
 COPIES: tuple[Callable[[Session], Session], ...] = (copy.copy, copy.deepcopy)
 SLOW = build_file(samples.many_sweeps(3))  # whose mean takes some sweeps
@@ -47,6 +47,16 @@ class Copies(unittest.TestCase):
             desk.close()
             self.assertEqual(twin.read().parts, samples.file_f().prior_means)
             self.assertEqual(twin.page().encode(), PAGE_OF_F)
+
+    def test_each_has_its_own_strikes(self) -> None:
+        for copied in COPIES:
+            desk = opened(SLOW)
+            desk.strike(PAID, 0, 0)
+            twin = copied(desk)
+            twin.strike(PAID, 1, 0)
+            desk.strike(PAID, 0, 1)
+            self.assertEqual(twin.struck, (Step(PAID, 0, 0), Step(PAID, 1, 0)))
+            self.assertEqual(desk.struck, (Step(PAID, 0, 0), Step(PAID, 0, 1)))
 
     def test_of_an_empty_session(self) -> None:
         for copied in COPIES:
@@ -99,8 +109,9 @@ class Answers(unittest.TestCase):
 
     def test_pickled_and_copied(self) -> None:
         desk = opened()
-        answers = (desk.judge(build_record((0, 0, 0))), desk.sweep(), desk.read(), desk.page(), desk.figures())
-        for answer in answers:
+        answers = (desk.judge(build_record((0, 0, 0))), desk.sweep(), desk.read(), desk.page(), desk.ultimate(1), desk.figures())
+        desk.strike(PAID, 0, 0)
+        for answer in (*answers, *desk.struck):
             for same in (pickle.loads(pickle.dumps(answer)), copy.copy(answer), copy.deepcopy(answer)):
                 self.assertEqual((type(same), same), (type(answer), answer))
 

@@ -109,6 +109,31 @@ class OfOtherArguments(unittest.TestCase):
         said = "the accident year is 0; allowed is 1, as J is 1"
         self.assert_said(lambda: desk.ultimate(0), f"refused 25 at 0: the accident year must be from 1 to J ({said})")
 
+    def test_strikes(self) -> None:
+        desk = opened()
+        self.assert_said(
+            lambda: desk.strike(2, 5, 5),
+            "refused 14 at 0: the channel must be 0 (paid) or 1 (incurred) (the channel is 2; allowed are 0 and 1)",
+        )
+        words = "refused 26 at 0: there is no such step, or it is struck already"
+        desk.strike(0, 0, 0)
+        for step, said in (
+            ((0, 2, 0), "the accident year is 2; allowed are 0 to 1 for paid steps, as J is 1"),
+            ((1, 1, 0), "the accident year is 1; allowed is 0 for incurred steps, as J is 1"),
+            ((0, 0, 1_000), "the column is 1,000; allowed are 0 to 1 for paid steps of accident year 0, as J is 1"),
+            ((0, 1, 1), "the column is 1; allowed is 0 for paid steps of accident year 1, as J is 1"),
+            ((1, 0, 1 << 64), "the column is 18,446,744,073,709,551,616; allowed is 0 for incurred steps of accident year 0, as J is 1"),
+            ((0, 0, 0), "the paid step of accident year 0 in column 0 is struck already"),
+        ):
+            self.assert_said(lambda: desk.strike(*step), f"{words} ({said})")
+        words = "refused 27 at 0: it is the last step left in its column"
+        for step, said in (
+            ((0, 1, 0), "no other paid step is left in column 0"),
+            ((0, 0, 1), "no other paid step is left in column 1"),
+            ((1, 0, 0), "no other incurred step is left in column 0"),
+        ):
+            self.assert_said(lambda: desk.strike(*step), f"{words} ({said})")
+
     def test_buffer(self) -> None:
         words = "refused 13 at 0: the buffer is too short for what is to be written"
         said = "the buffer has 16 bytes; with J = 1 a mean record has 17"

@@ -1,4 +1,7 @@
-"""The observations that a session keeps, which no call shows: those of the reference, by their places in the arrays of the library."""
+"""The observations that a session keeps, which no call shows: those of the reference, by their places in the arrays of the library.
+
+Behind them are the marks of struck steps.
+"""
 
 import unittest
 from ctypes import memmove, sizeof
@@ -12,11 +15,11 @@ import samples
 from chain import weights_of
 from damage import drawn_file_damage
 from layout import File, build_file, build_record
-from reserving_desk import Refused, Session
+from reserving_desk import PAID, Refused, Session
 from reserving_desk.library import HELD, SESSION_FIELDS
 from scales import logarithm
 
-MOST_CELLS, MOST_PARTS, MOST_YEARS = 272, 31, 15
+MOST_CELLS, MOST_PARTS, MOST_RATIOS, MOST_MARKS = 272, 31, 15, 496
 OBSERVED = tuple(SESSION_FIELDS)[len(HELD):]
 
 
@@ -31,8 +34,9 @@ def expected(file: File) -> list[list[int]]:
     parts, priors, ratios = weights.p + weights.q, weights.s + weights.t, weights.g
     return [
         behind(logs, MOST_CELLS) + behind(file.prior_means, MOST_PARTS),
-        behind(parts, MOST_PARTS) + behind(priors, MOST_PARTS) + behind(ratios, MOST_YEARS),
+        behind(parts, MOST_PARTS) + behind(priors, MOST_PARTS) + behind(ratios, MOST_RATIOS),
         behind(file.sigma2 + file.tau2, MOST_PARTS),
+        [0] * MOST_MARKS,
     ]
 
 
@@ -48,7 +52,7 @@ def spoilt(desk: Session, rng: Random) -> None:
 
 class Observations(unittest.TestCase):
     def test_their_arrays(self) -> None:
-        self.assertEqual(OBSERVED, ("ticks", "weights", "variances"))
+        self.assertEqual(OBSERVED, ("ticks", "weights", "variances", "struck"))
 
     def test_of_files(self) -> None:
         rng = Random(19)
@@ -67,12 +71,24 @@ class Observations(unittest.TestCase):
         desk.open(build_file(small))
         self.assertEqual(kept(desk), expected(small))
 
-    def test_no_call_but_open_changes_them(self) -> None:
+    def test_a_strike_marks_its_step_alone(self) -> None:
+        """The next open takes the mark away."""
+        file = samples.drawn_file(Random(5), 3)
+        desk = opened(build_file(file))
+        desk.strike(PAID, 1, 2)
+        *others, marks = kept(desk)
+        self.assertEqual(others, expected(file)[:-1])
+        self.assertEqual([place for place, mark in enumerate(marks) if mark], [16 * 2 + 1])
+        desk.close()
+        desk.open(build_file(file))
+        self.assertEqual(kept(desk), expected(file))
+
+    def test_no_call_but_open_and_strike_changes_them(self) -> None:
         file = samples.file_f()
         desk = opened(build_file(file))
         desk.judge(build_record((0, 0, 0)))
         desk.sweep()
-        desk.read(), desk.page(), desk.figures(), desk.row(F, 0, 0)
+        desk.read(), desk.page(), desk.ultimate(1), desk.figures(), desk.struck, desk.row(F, 0, 0)
         self.assertEqual(kept(desk), expected(file))
 
     def test_a_refused_open_leaves_them(self) -> None:

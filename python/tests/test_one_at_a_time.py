@@ -31,6 +31,7 @@ EXAMPLES: dict[str, Callable[[Session], object]] = {
     "page": lambda desk: desk.page(),
     "page_into": lambda desk: desk.page_into(bytearray(100)),
     "ultimate": lambda desk: desk.ultimate(1),
+    "strike": lambda desk: desk.strike(0, 0, 0),
     "figures": lambda desk: desk.figures(),
     "row": lambda desk: desk.row(FILE, 0, 0),
     "close": lambda desk: desk.close(),

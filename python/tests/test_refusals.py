@@ -88,6 +88,16 @@ class ByNumber(unittest.TestCase):
             ((25, "accident year", (1 << 32) + 1), lambda: opened(F).ultimate((1 << 32) + 1)),
             ((25, "accident year", (1 << 64) - 1), lambda: opened(F).ultimate((1 << 64) - 1)),
             ((25, "accident year", (1 << 64) + 1), lambda: opened(F).ultimate((1 << 64) + 1)),
+            ((14, "channel", 2), lambda: opened(F).strike(2, 9, 9)),
+            ((14, "channel", (1 << 64) + 1), lambda: opened(F).strike((1 << 64) + 1, 0, 0)),
+            ((26, "accident year", 2), lambda: opened(F).strike(0, 2, 9)),
+            ((26, "accident year", 1), lambda: opened(F).strike(1, 1, 0)),
+            ((26, "accident year", 1 << 64), lambda: opened(F).strike(0, 1 << 64, 0)),
+            ((26, "column", 1), lambda: opened(F).strike(0, 1, 1)),
+            ((26, "column", 1), lambda: opened(F).strike(1, 0, 1)),
+            ((26, "column", 1 << 64), lambda: opened(F).strike(0, 0, 1 << 64)),
+            ((27, None, None), lambda: opened(F).strike(0, 0, 1)),
+            ((27, None, None), lambda: opened(F).strike(1, 0, 0)),
         ):
             refused = refusal_of(call)
             self.assertEqual((refused.number, refused.field, refused.value), expected)
@@ -101,6 +111,7 @@ class ByNumber(unittest.TestCase):
                 lambda: Session().judge(RECORD), lambda: Session().judge(b""), lambda: Session().sweep(0),
                 Session().read, lambda: Session().read_into(bytearray()), Session().page, lambda: Session().page_into(bytearray()),
                 lambda: Session().ultimate(1), lambda: Session().ultimate(0),
+                lambda: Session().strike(0, 0, 0), lambda: Session().strike(2, 2, 2),
             ),
             22: (lambda: spent.open(FILE), lambda: spent.open(b"")),
             23: (spent.sweep,),

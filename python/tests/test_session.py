@@ -14,6 +14,7 @@ import layout
 import samples
 import vectors
 import vectors_calls
+import vectors_drawn
 from layout import build_file, build_record
 from reserving_desk import INCURRED, PAID, TICKS_PER_DOUBLING as T
 from reserving_desk import Judgement, Mean, Refused, Session, Sweeping
@@ -126,6 +127,12 @@ class Numbers(unittest.TestCase):
             self.assertEqual(self.refusal("row", F, past, 0), 14)
             self.assertEqual(self.refusal("row", F, 0, past), 15)
 
+    def test_strike(self) -> None:
+        for past in (2, 256, 1 << 32, 1 << 64, 1 << 70):
+            self.assertEqual(self.refusal("strike", past, 0, 0), 14)
+            self.assertEqual(self.refusal("strike", 0, past, 0), 26)
+            self.assertEqual(self.refusal("strike", 0, 0, past), 26)
+
 
 class Sessions(unittest.TestCase):
     def test_context(self) -> None:
@@ -177,7 +184,7 @@ class AgainstTheReference(unittest.TestCase):
     def test_drawn_sessions(self) -> None:
         rng = Random("package 1")
         for _ in range(40):
-            script = b"".join(vectors_calls.drawn_session(rng))
+            script = b"".join(vectors_drawn.drawn_session(rng))
             self.assert_same(script, vectors.answers(script).decode())
 
     def test_every_j(self) -> None:

@@ -2,7 +2,7 @@
 
 import unittest
 from contextlib import AbstractContextManager
-from ctypes import c_int32, c_uint64, sizeof
+from ctypes import c_int32, c_uint8, c_uint64, sizeof
 from typing import Any
 from unittest import mock
 
@@ -23,9 +23,10 @@ def with_size(name: str, size: Any) -> AbstractContextManager[Any]:
     return mock.patch.dict(package.SESSION_FIELDS, {name: size})
 
 
-def count_of(name: str) -> int:
-    """How many numbers a field of a session holds, each of 8 bytes."""
-    return sizeof(package.SESSION_FIELDS[name]) // sizeof(c_uint64)
+def kind_of(name: str) -> tuple[Any, int]:
+    """The numbers that a field of a session holds: their type, and how many they are."""
+    field = package.SESSION_FIELDS[name]
+    return field._type_, field._length_
 
 
 class Sizes(unittest.TestCase):
@@ -36,18 +37,19 @@ class Sizes(unittest.TestCase):
 
     def test_every_size_that_differs_is_named(self) -> None:
         for name in package.SESSION_FIELDS:
-            for count in (count_of(name) - 1, count_of(name) + 1):
-                with self.subTest(name), with_size(name, c_uint64 * count):
+            number, count = kind_of(name)
+            for other in (count - 1, count + 1):
+                with self.subTest(name), with_size(name, number * other):
                     with self.assertRaisesRegex(SizesDiffer, f"is not the library of this package: {name} has "):
                         load_anew()
 
     def test_an_array_more_or_less(self) -> None:
-        with with_size("struck", c_uint64 * 17):
-            with self.assertRaisesRegex(SizesDiffer, "struck has 0 bytes there and 136 here"):
+        with with_size("residues", c_uint64 * 17):
+            with self.assertRaisesRegex(SizesDiffer, "residues has 0 bytes there and 136 here"):
                 load_anew()
         fewer = dict(list(package.SESSION_FIELDS.items())[:-1])
         with mock.patch.object(package, "SESSION_FIELDS", fewer):
-            with self.assertRaisesRegex(SizesDiffer, "what is behind them has 248 bytes there and 0 here"):
+            with self.assertRaisesRegex(SizesDiffer, "what is behind them has 3968 bytes there and 0 here"):
                 load_anew()
 
     def test_a_library_of_the_version_before(self) -> None:
@@ -58,11 +60,17 @@ class Sizes(unittest.TestCase):
 
     def test_numbers_of_four_bytes(self) -> None:
         for name in package.SESSION_FIELDS:
-            count = count_of(name)
+            number, count = kind_of(name)
             with self.subTest(name), with_size(name, c_int32 * count):
-                said = f"{name} has {8 * count} bytes there and {4 * count} here"
+                said = f"{name} has {sizeof(number) * count} bytes there and {4 * count} here"
                 with self.assertRaisesRegex(SizesDiffer, said):
                     load_anew()
+
+    def test_marks_of_one_byte(self) -> None:
+        """As many words of 8 bytes would be taken for another array."""
+        self.assertEqual(kind_of("struck"), (c_uint8, 496))
+        with with_size("struck", c_uint64 * 496), self.assertRaisesRegex(SizesDiffer, "struck has 496 bytes there and 3968 here"):
+            load_anew()
 
     def test_is_a_library_missing(self) -> None:
         with with_size("matrix", c_uint64 * 960), self.assertRaises(LibraryMissing):
