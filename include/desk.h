@@ -54,7 +54,7 @@ typedef struct desk_session {
     int64_t ticks[303];     /* of the file: the logarithms of its amounts; from 272 on its prior means */
     uint64_t weights[77];   /* of its observations; from 31 on of its priors, from 62 on of its ratios */
     uint64_t variances[31]; /* sigma squared, then tau squared */
-    uint8_t struck[496];    /* of part k and accident year i at 16 * k + i, phi first: not 0 where that step is struck */
+    uint8_t struck[496];    /* of part k and accident year i at 16 * k + i, phi first: not 0 where a call struck that step */
 } desk_session;
 
 /* The empty session, where one is declared; and as a value, to be assigned or handed on. */
@@ -172,9 +172,10 @@ static inline desk_projection desk_ultimate(const desk_session *s, uint64_t year
     return desk_ultimate_lent(s->held, s->own, s->matrix, s->right_hand, s->mean, s->ticks, s->variances, year);
 }
 
-/* Strikes a step out of the open file: x (channel 0) or z (1) of an accident year, in a column, which is its development year. Its term
- * leaves the loss, and with it own weight, matrix and right-hand side; the mean is the prior means again, with 0 sweeps run. All else of
- * the file stays, as do the steps beside it. No call puts a step back: close forgets what is struck, and open has every step.
+/* Strikes a step out of the open file: x (channel 0) or z (1) of an accident year, in a column: x of column j is between development
+ * years j - 1 and j, z between j and j + 1. Its term leaves the loss, and its weight own weight, matrix and right-hand side; the mean is
+ * the prior means again, with 0 sweeps run. All else of the file stays, as do the steps beside it. No call puts a step back: close
+ * forgets what is struck, and open has every step.
  * May be refused with 21, then 14, 26, 27. */
 static inline desk_refusal desk_strike(desk_session *s, uint64_t channel, uint64_t year, uint64_t column) {
     return desk_strike_lent(s->held, s->own, s->matrix, s->right_hand, s->mean, s->ticks, s->weights, s->struck, channel, year, column);

@@ -1,4 +1,4 @@
-"""Specification, "The calls" and "Refusals": the steps of both triangles, those that are left, and what refuses a strike.
+"""Specification, "Struck steps" and "Refusals": the steps of both triangles, those that are left, and what refuses a strike.
 
 A struck step is left out of every list, and that is all: nothing is given a weight of 0.
 """

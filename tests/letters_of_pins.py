@@ -245,6 +245,13 @@ SAID = {
         "unfolding",
         "pub last-left : channel ≤ 1 → isStep J (step channel i j) ≡ true → isStruck f (step channel i j) ≡ false → leftBeside J "
         "(isStruck f) (step channel i j) ≡ 1 → r ≡ refusal 27 unfolding",
+        "pub paid-struck : channel ≡ 0 → i + j ≤ J → isStruck f (step channel i j) ≡ false → (k : ℕ) → i ≢ k → k + j ≤ J → isStruck f "
+        "(step channel k j) ≡ false → (r ≡ refusal 0) × (sessionState p t ≡ holds (keptOf without-it) start 0) unfolding",
+        "pub incurred-struck : channel ≡ 1 → i + j < J → isStruck f (step channel i j) ≡ false → (k : ℕ) → i ≢ k → k + j < J → isStruck f "
+        "(step channel k j) ≡ false → (r ≡ refusal 0) × (sessionState p t ≡ holds (keptOf without-it) start 0) unfolding",
+        "| abbrev refusal : ℕ → Refusal | refusal number = record { number = number; place = 0 }",
+        "abbrev J : ℕ J = lastYear (f .file) abbrev without-it : StruckFile without-it = record { file = f .file; struck = "
+        "step channel i j ∷ f .struck } abbrev start : List ℤ start = tabFrom 0 (parts (lastYear (f .file))) (priorMean (f .file))",
     ),
 }
 
@@ -278,9 +285,9 @@ SUPPOSED = {
         "(yes-file : accepted f ≡ true)",
     ),
     "laws/PinnedPage": (
-        "(f : Bytes) (yes-file : accepted f ≡ true) (μ : List ℤ) (limits : (k : ℕ) → k < 2 * lastYear f + 1 → natAbs (part μ k) ≤ "
+        "(f : StruckFile) (admitted : Admitted f) (μ : List ℤ) (limits : (k : ℕ) → k < 2 * lastYear (f .file) + 1 → natAbs (part μ k) ≤ "
         "67108864)",
-        "(k : ℕ) (below : k < 2 * lastYear f + 1)",
+        "(k : ℕ) (below : k < 2 * J + 1)",
     ),
     "laws/PinnedPriors": (
         "(f : Bytes)",

@@ -129,7 +129,7 @@ PINNED = {
         "ultimate-worth ( ultimate-of-file ) )",
     "desk/PinnedStrikes":
         "( strike-told strike-numbered strike-state strike-refused strike-closed ( no-channel no-paid-step no-incurred-step "
-        "struck-already last-left ) )",
+        "struck-already last-left paid-struck incurred-struck ) )",
 }
 
 # The examples that document 01 marks with a star ("Figures to agree on").

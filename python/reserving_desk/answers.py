@@ -55,7 +55,7 @@ class Ultimate:
 
 
 class Step(NamedTuple):
-    """What `Session.strike` takes out: x of an accident year in a column, its development year (channel `PAID`), or z (`INCURRED`)."""
+    """What `Session.strike` takes out: x of an accident year in a column (channel `PAID`), or z (`INCURRED`)."""
 
     channel: int
     year: int

@@ -36,7 +36,7 @@ class Refused(Exception):
     `number` and `place` are the desk's, and `words` say what the number means. `field` names the field or the argument that was
     refused, as "paid amount of accident year 1, development year 0"; `value` is the number that stood there (of bytes and of a
     buffer, how many they are), and `limits` say what is allowed. These three are None where a call was refused for the session's
-    state. `details` tell all three in a sentence, or which step is in the session's way.
+    state. `details` tell all three in a sentence, or which step is struck already, or the last one left.
     """
 
     def __init__(

@@ -117,12 +117,12 @@ class Session:
         return Ultimate(found.floor, found.remainder, found.divisor)
 
     def strike(self, channel: int, year: int, column: int) -> None:
-        """Takes a step out of the averages: x of an accident year in a column, its development year (channel 0), or z (channel 1).
+        """Takes a step out of the averages: x of an accident year in a column (channel 0), or z (channel 1).
 
-        Column 0 of channel 0 is what was paid in the first development year. The loss, the figures and what a mean is worth are those
-        without the step from here on; the mean is the prior means again, and no sweep is run. The amounts stay, and with them the steps
-        beside it, the ratios of incurred to paid, rows and the logarithms of ultimates. No call puts a step back: close the session, and
-        open the file again. Refused with 21, 14, 26, 27.
+        x of column j is between development years j - 1 and j, and of column 0 what was paid first; z is between j and j + 1. The loss,
+        the figures and what a mean is worth are those without the step from here on; the mean is the prior means again, and no sweep is
+        run. The amounts stay, and with them the steps beside it, the ratios of incurred to paid, rows and the latest logarithms, from
+        which ultimates start. No call puts a step back: close the session, and open the file again. Refused with 21, 14, 26, 27.
         """
         numbers = (not_negative("channel", channel), not_negative("year", year), not_negative("column", column))
         with self._one_at_a_time:

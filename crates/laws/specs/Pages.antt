@@ -11,14 +11,14 @@ use lib.ListN.{length, take, drop, getD, length-append}
 use lib.Seq.{take-at, drop-at, drop-append-add, drop-drop, ext-getD}
 use Rattle.definitions.specs.Words.{part, tabFrom}
 use Rattle.definitions.specs.Layout.{Bytes, lastYear, parts}
-use Rattle.definitions.specs.Refusals.{yearLimit, partLimit, accepted}
-use Rattle.definitions.specs.Observations.{chainOf}
-use Rattle.definitions.specs.Matrix.{Part, Φ, Ψ, partOf, own, figuresFrom, figuresOf}
+use Rattle.definitions.specs.Refusals.{yearLimit, partLimit}
+use Rattle.definitions.specs.Matrix.{Part, Φ, Ψ, partOf, own, figuresFrom}
+use Rattle.definitions.specs.Strikes.{StruckFile, Admitted, chainLeft, figuresLeft}
 use Rattle.definitions.specs.Text.{ascii, space, lineFeed, decimalFrom, moreDigits, decimal, signedDecimal, aligned, readNumber, nameOf, indexOf}
 use Rattle.definitions.specs.Page.{pageLine, pageOf, columns, LineFits, PageFits}
 use Rattle.laws.specs.Accepted.{accepted-file}
 use Rattle.laws.specs.ChainLimits.{chain-limits}
-use Rattle.laws.specs.StruckChain.{file-chain}
+use Rattle.laws.specs.StruckChain.{struck-chain}
 use Rattle.laws.specs.Tables.{tab-at}
 use Rattle.laws.specs.Decimal.{aligned-read, aligned-length, decimal-length, signed-length, From, from-append, aligned-from}
 use Rattle.laws.specs.Lines.{lines-same, lines-length, line-at, Line, ended, line-behind, same-lines}
@@ -180,18 +180,17 @@ pub page-cong : (J : ℕ) (μ ν : List ℤ) (D E : List ℕ) → ((k : ℕ) →
 page-cong J μ ν D E means weights =
     lines-same _ _ (parts J) (λ k below. ap₂ (pageLine (partOf J k)) (means k below) (weights k below))
 
--- every value of an accepted file and of a mean inside the limits fits its columns
-pub file-page-fits : (f : Bytes) → accepted f ≡ true → (μ : List ℤ)
-    → ((k : ℕ) → k < parts (lastYear f) → natAbs (part μ k) ≤ partLimit) → PageFits (lastYear f) μ (figuresOf f .own)
+-- every value of an accepted file, whatever is struck of it, and of a mean inside the limits fits its columns
+pub file-page-fits : (f : StruckFile) → Admitted f → (μ : List ℤ)
+    → ((k : ℕ) → k < parts (lastYear (f .file)) → natAbs (part μ k) ≤ partLimit) → PageFits (lastYear (f .file)) μ (figuresLeft f .own)
 unfolding figuresFrom
-file-page-fits f yes-file μ inside =
-    let h = accepted-file f yes-file in
-    page-fits (lastYear f) μ (figuresOf f .own) (record {
-      years = h .years .to;
+file-page-fits f admitted μ inside =
+    page-fits (lastYear (f .file)) μ (figuresLeft f .own) (record {
+      years = accepted-file (f .file) (admitted .taken) .years .to;
       means = inside;
       weights = λ k below.
-          let weight = tab-at (parts (lastYear f)) (own (chainOf f)) k 0 below in
-          omega (arith, weight, chain-limits (chainOf f) (file-chain f h .0) .own-to k below);
+          let weight = tab-at (parts (lastYear (f .file))) (own (chainLeft f)) k 0 below in
+          omega (arith, weight, chain-limits (chainLeft f) (struck-chain f admitted .0) .own-to k below);
     })
 
 -- ---- two different means never share a page

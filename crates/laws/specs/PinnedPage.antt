@@ -11,11 +11,10 @@ use lib.ListN.{length, take, drop, getD}
 use lib.Seq.{drop-drop, take-take}
 use Rattle.definitions.specs.Words.{part}
 use Rattle.definitions.specs.Layout.{Bytes, lastYear}
-use Rattle.definitions.specs.Observations.{chainOf}
-use Rattle.definitions.specs.Matrix.{Φ, Ψ, partOf, own, figuresFrom, figuresOf}
+use Rattle.definitions.specs.Matrix.{Φ, Ψ, partOf, own, figuresFrom}
 use Rattle.definitions.specs.Text.{ascii, readNumber, nameOf, indexOf}
 use Rattle.definitions.specs.Page.{pageLine, pageOf, PageFits}
-use Rattle.definitions.specs.Refusals.{accepted}
+use Rattle.definitions.specs.Strikes.{StruckFile, Admitted, chainLeft, figuresLeft}
 use Rattle.laws.specs.Tables.{tab-at}
 use Rattle.laws.specs.Pages.{file-page-fits, page-injective}
 
@@ -26,54 +25,57 @@ inside-line (suc at) n zero l fits = absurd (omega arith)
 inside-line (suc at) n (suc width) [] fits = refl
 inside-line (suc at) n (suc width) (x ∷ l) fits = inside-line at n width l (omega arith)
 
-module _ (f : Bytes) (yes-file : accepted f ≡ true) (μ : List ℤ)
-    (limits : (k : ℕ) → k < 2 * lastYear f + 1 → natAbs (part μ k) ≤ 67108864) where
+module _ (f : StruckFile) (admitted : Admitted f) (μ : List ℤ)
+    (limits : (k : ℕ) → k < 2 * lastYear (f .file) + 1 → natAbs (part μ k) ≤ 67108864) where
+  abbrev J : ℕ
+  J = lastYear (f .file)
+
   abbrev page : Bytes
-  page = pageOf (lastYear f) μ (figuresOf f .own)
+  page = pageOf J μ (figuresLeft f .own)
 
-  fits : PageFits (lastYear f) μ (figuresOf f .own)
-  fits = file-page-fits f yes-file μ limits
+  fits : PageFits J μ (figuresLeft f .own)
+  fits = file-page-fits f admitted μ limits
 
-  pub page-bytes : length page ≡ 28 * (2 * lastYear f + 1)
+  pub page-bytes : length page ≡ 28 * (2 * J + 1)
   page-bytes = fits .bytes
 
-  module _ (k : ℕ) (below : k < 2 * lastYear f + 1) where
+  module _ (k : ℕ) (below : k < 2 * J + 1) where
     -- so many bytes of line k, from one of them on
     piece : (at n : ℕ) → at + n ≤ 28
-        → take n (drop (28 * k + at) page) ≡ take n (drop at (pageLine (partOf (lastYear f) k) (part μ k) (getD (figuresOf f .own) k 0)))
+        → take n (drop (28 * k + at) page) ≡ take n (drop at (pageLine (partOf J k) (part μ k) (getD (figuresLeft f .own) k 0)))
     piece at n inside =
         ap (take n) (sym (drop-drop at (28 * k) page))
         ∙ sym (inside-line at n 28 (drop (28 * k) page) inside)
         ∙ ap (λ l. take n (drop at l)) (fits .line k below)
 
     -- columns 1 to 3, 5 to 6, 8 to 16 and 18 to 27
-    pub name-on-page : take 3 (drop (28 * k + 0) page) ≡ cond (leb k (lastYear f)) (ascii "phi") (ascii "psi")
+    pub name-on-page : take 3 (drop (28 * k + 0) page) ≡ cond (leb k J) (ascii "phi") (ascii "psi")
     unfolding partOf nameOf
-    name-on-page = piece 0 3 (omega arith) ∙ fits .fits k below .name ∙ by-kind (leb k (lastYear f))
+    name-on-page = piece 0 3 (omega arith) ∙ fits .fits k below .name ∙ by-kind (leb k J)
       where
-        by-kind : (b : Bool) → nameOf (cond b (Φ k) (Ψ (k - (lastYear f + 1)))) ≡ cond b (ascii "phi") (ascii "psi")
+        by-kind : (b : Bool) → nameOf (cond b (Φ k) (Ψ (k - (J + 1)))) ≡ cond b (ascii "phi") (ascii "psi")
         by-kind true = refl
         by-kind false = refl
 
-    pub index-on-page : readNumber (take 2 (drop (28 * k + 4) page)) ≡ some (pos (cond (leb k (lastYear f)) k (k - (lastYear f + 1))))
+    pub index-on-page : readNumber (take 2 (drop (28 * k + 4) page)) ≡ some (pos (cond (leb k J) k (k - (J + 1))))
     unfolding partOf indexOf
     index-on-page =
         ap readNumber (piece 4 2 (omega arith)) ∙ fits .fits k below .index-read
-        ∙ ap (λ i. some (pos i)) (by-kind (leb k (lastYear f)))
+        ∙ ap (λ i. some (pos i)) (by-kind (leb k J))
       where
-        by-kind : (b : Bool) → indexOf (cond b (Φ k) (Ψ (k - (lastYear f + 1)))) ≡ cond b k (k - (lastYear f + 1))
+        by-kind : (b : Bool) → indexOf (cond b (Φ k) (Ψ (k - (J + 1)))) ≡ cond b k (k - (J + 1))
         by-kind true = refl
         by-kind false = refl
 
     pub ticks-on-page : readNumber (take 9 (drop (28 * k + 7) page)) ≡ some (part μ k)
     ticks-on-page = ap readNumber (piece 7 9 (omega arith)) ∙ fits .fits k below .ticks-read
 
-    pub weight-on-page : readNumber (take 10 (drop (28 * k + 17) page)) ≡ some (pos (own (chainOf f) k))
+    pub weight-on-page : readNumber (take 10 (drop (28 * k + 17) page)) ≡ some (pos (own (chainLeft f) k))
     unfolding figuresFrom
     weight-on-page =
         ap readNumber (piece 17 10 (omega arith))
         ∙ fits .fits k below .weight-read
-        ∙ ap (λ weight. some (pos weight)) (tab-at (2 * lastYear f + 1) (own (chainOf f)) k 0 below)
+        ∙ ap (λ weight. some (pos weight)) (tab-at (2 * J + 1) (own (chainLeft f)) k 0 below)
 
     pub spaces-on-page : (take 1 (drop (28 * k + 3) page) ≡ 32 ∷ []) × (take 1 (drop (28 * k + 6) page) ≡ 32 ∷ [])
         × (take 1 (drop (28 * k + 16) page) ≡ 32 ∷ []) × (take 1 (drop (28 * k + 27) page) ≡ 10 ∷ [])

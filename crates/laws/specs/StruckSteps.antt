@@ -82,6 +82,12 @@ one-less n a m below unmarked =
     by-test i true e = rw (sym (ap m (eqb→eq a i (subst T (sym e) tt))), unmarked) refl
     by-test i false e = alone (m i)
 
+-- two that are named are two
+pub two-left : (n a b : ℕ) (m : ℕ → Bool) → a < n → b < n → a ≢ b → m a ≡ false → m b ≡ false → 2 ≤ leftOf n m
+two-left n a b m a-below b-below apart a-free b-free =
+    let other : m b || eqb a b ≡ false = rw (b-free, ne-eqb a b apart) refl in
+    omega (arith, one-less n a m a-below a-free, left-some n (λ i. m i || eqb a i) b b-below other)
+
 -- ---- of each column
 
 or-false : (t : Bool) → t || false ≡ t

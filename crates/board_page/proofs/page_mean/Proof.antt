@@ -9,10 +9,12 @@ use Rattle.definitions.specs.Layout.{Bytes, lastYear}
 use Rattle.definitions.specs.Refusals.{yearLimit}
 use Rattle.definitions.specs.Matrix.{figuresFrom, figuresOf}
 use Rattle.definitions.specs.Page.{pageLength}
+use Rattle.definitions.specs.Strikes.{unstruck}
 use Rattle.definitions.specs.Machine.{pageIn}
 use Rattle.definitions.specs.Programs.{paged}
 use Rattle.laws.specs.Accepted.{accepted-file}
 use Rattle.laws.specs.Pages.{file-page-fits}
+use Rattle.laws.specs.StruckChain.{admitted}
 use Rattle.settling.specs.Printed.{prints-front, prints-as}
 use Rattle.settling.specs.Settles.{WritesWhole, writes-whole}
 use Rattle.board_page.proofs.page_mean.Statement.{statement}
@@ -34,7 +36,7 @@ module _ (c : tie.After-page) where
 
   text-length : length text ≡ pageLength (lastYear bytes)
   unfolding figuresFrom
-  text-length = file-page-fits bytes (start .pre .1 .file) (start .pre .1 .mean) (start .pre .1 .inside) .bytes
+  text-length = file-page-fits (unstruck bytes) (admitted bytes (start .pre .1 .file)) (start .pre .1 .mean) (start .pre .1 .inside) .bytes
 
   page-whole : WritesWhole pageLength pageIn bytes (start .pre .1 .mean) (replicate 4096 0) (c .page .result) (c .page .last .1 .0)
   page-whole = writes-whole (start .pre .1) (c .page .ensures) (omega (arith, years))
