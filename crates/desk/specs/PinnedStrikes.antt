@@ -95,7 +95,7 @@ module _ (channel i j : ℕ) (s t : Held) (o p : Observations) (r : Refusal) (ca
     done of-channel there free more =
         let passed : strikeCheck J (isStruck f) d ≡ clear = rw (le-leb channel 1 of-channel, there, free, ne-eqb _ 1 more) refl in
         let out : strikeCall theFile (holds f μ count) d ≡ strikeUnless theFile clear d f μ count =
-            ap (λ c. strikeUnless theFile c d f μ count) passed in
+        ap (λ c. strikeUnless theFile c d f μ count) passed in
         (told ∙ ap (λ x. refusalTold (x .answer)) out, call .state ∙ ap (λ x. x .state) as-file ∙ ap (λ x. mapState keptOf (x .state)) out)
 
     pub paid-struck : channel ≡ 0 → i + j ≤ J → isStruck f (step channel i j) ≡ false
@@ -105,7 +105,7 @@ module _ (channel i j : ℕ) (s t : Held) (o p : Observations) (r : Refusal) (ca
     paid-struck paid there free k other also left =
         let many = two-left (J - j + 1) i k (λ i. isStruck f (step channel i j)) (omega arith) (omega arith) other free left in
         let counted : leftBeside J (isStruck f) d ≡ leftOf (J - j + 1) (λ i. isStruck f (step channel i j)) =
-            rw (eq-eqb channel 0 paid) refl in
+        rw (eq-eqb channel 0 paid) refl in
         done (omega (arith, paid)) (rw (eq-eqb channel 0 paid, le-leb (i + j) J there) refl) free
         (λ one. omega (arith, many, counted, one))
 
