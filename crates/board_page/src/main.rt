@@ -1,4 +1,6 @@
 // The program for the board pack: opens the file on standard input, sweeps with n = 4,096, and prints the page of the mean.
+#![tactic(auto)]
+
 ghost use Rattle.std.specs.Prelude.{ℕ, ◌≤◌, ◌≡◌, length, take};
 ghost use Rattle.definitions.specs.Programs.{board_page};
 ghost use Rattle.laws.specs.Printed.{MeanSettled};

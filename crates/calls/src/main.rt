@@ -1,4 +1,6 @@
 // A program that runs calls: docs/CALLS.md. Each answer is written before the next call is read.
+#![tactic(auto)]
+
 use crate::printing::{
     print_close, print_hex, print_judge, print_open, print_refusal, print_script, print_strike,
     print_sweep, print_ultimate, print_write,

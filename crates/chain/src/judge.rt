@@ -1,4 +1,4 @@
-// The test of a mean by its residues: |residue| ≤ typeof.e.D at each part.
+// The test of a mean by its residues: |residue| ≤ e·D at each part.
 ghost use Rattle.std.specs.Prelude.{◌≡◌, nat_abs};
 ghost use Rattle.definitions.specs.Matrix.{is_passed};
 ghost use Rattle.chain.specs.Judge.{OwnFits, Tested, Passes, judgement_of};

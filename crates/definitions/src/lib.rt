@@ -1,1 +1,2 @@
 // The specification as definitions. There is no code here: see specs/.
+#![tactic(auto)]

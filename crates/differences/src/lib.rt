@@ -1,5 +1,7 @@
 // The residues of a mean straight from what a session keeps: weight times difference, added up over the observations that each part stands
 // in. No matrix is lent, and none is formed.
+#![tactic(auto)]
+
 ghost use Rattle.differences.specs.Differences.{OfResidue, ResidueAt, OfResidues, ResiduesOf};
 
 use crate::own::{prior_missed, steps_missed};

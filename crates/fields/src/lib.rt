@@ -1,4 +1,6 @@
 // Fields of a lent byte string: a place in, and out the field's value or the end of the reading.
+#![tactic(auto)]
+
 ghost use Rattle.std.specs.Prelude.{◌≡◌, ◌+◌, ◌≤◌, length};
 ghost use Rattle.definitions.specs.Layout.{unsigned};
 ghost use Rattle.fields.specs.Fields.{byte_field_at, field_at, signed_field_at};

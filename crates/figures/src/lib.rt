@@ -1,5 +1,7 @@
 // The figures that judge and sweep go by, made of the arrays of observations: own weights, the precision matrix and the right-hand side.
 // They are the specification's, of every chain that the arrays hold; a struck step counts for nothing.
+#![tactic(auto)]
+
 ghost use Rattle.figures.specs.Gathered.{OfObservations, FiguresOf};
 
 use crate::matrix::fill_matrix;

@@ -17,7 +17,7 @@ read z h = kept w64 refl h
 
 -- the same of a number that was an i64 already, with what is told of it where it is read through a reference or returned by a call
 pub same : (z : ℤ) → mag z < 2 ^ 63 → stored z ≡ z
-same z told = to_z-of_z (record { sfits = told })
+same z told = to_z-of_z {w = w64} {z = z} (record { sfits = told })
 
 -- ---- by the test `z < 0`
 

@@ -1,1 +1,2 @@
 // Laws of the whole numbers that the proofs cite. There is no code here: see specs/.
+#![tactic(auto)]

@@ -1,4 +1,6 @@
 // The call `judge`, over a session whose arrays are lent: the mean of a record, whoever wrote it, is tested against the open file.
+#![tactic(auto)]
+
 ghost use Rattle.holding.specs.State.{held_at};
 ghost use Rattle.judging.specs.Judges.{Judges};
 

@@ -228,6 +228,14 @@ module _ (given : Bytes) where
       by_answer st (refused number place) text = short (text show) (refusal_most number place)
       by_answer st (going total) text = short (text show) (spent_most total)
       by_answer st (settled total) s = short (s.text show) (settled-most st total s)
+      by_answer st opened text = elim text [ ]
+      by_answer st (judged _) text = elim text [ ]
+      by_answer st written text = elim text [ ]
+      by_answer st (ultimate_is _) text = elim text [ ]
+      by_answer st struck_out text = elim text [ ]
+      by_answer st (part_shown _) text = elim text [ ]
+      by_answer st row_is_shown text = elim text [ ]
+      by_answer st closed text = elim text [ ]
 
   pub listing_most : length (listing given) ≤ 4096
   listing_most = most listed (λ st total s. listed_most (figures_of given) s.mean total (years_to s.file))

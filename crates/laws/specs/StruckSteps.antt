@@ -62,6 +62,7 @@ one_of (suc n) a below = by_place (ℕ_discrete a n) (one_of n a)
   where
     yes_one : (t : Bool) → T t → 0 + cond t 1 0 ≡ 1
     yes_one true holds = refl
+    yes_one false holds = elim holds [ ]
 
     by_place : Dec (a ≡ n) → (a < n → total n (λ i. cond (eqb a i) 1 0) ≡ 1)
         → total n (λ i. cond (eqb a i) 1 0) + cond (eqb a n) 1 0 ≡ 1
@@ -182,9 +183,12 @@ strikable J struck (step c i j) e =
   where
     and_both : (p q : Bool) → T (p && not q) → (p ≡ true) × (q ≡ false)
     and_both true false h = (refl, refl)
+    and_both false q h = elim h [ ]
+    and_both true true h = elim h [ ]
 
     negated : (t : Bool) → T (not t) → t ≡ false
     negated false h = refl
+    negated true h = elim h [ ]
 
 pub strike_channel : (J : ℕ) (struck : Step → Bool) (c i j : ℕ) → strike_check J struck (step c i j) ≡ clear → c ≤ 1
 unfolding strike_check

@@ -1,1 +1,2 @@
 // What follows from the definitions. There is no code here: see specs/.
+#![tactic(auto)]

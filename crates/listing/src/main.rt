@@ -1,4 +1,6 @@
 // The listing program: opens the file on standard input, sweeps with n = 4,096, reads, and prints the mean.
+#![tactic(auto)]
+
 ghost use Rattle.std.specs.Prelude.{◌≤◌, ◌≡◌, length, take};
 ghost use Rattle.definitions.specs.Matrix.{part_by_index};
 ghost use Rattle.definitions.specs.Programs.{part_line, listing};

@@ -1,5 +1,7 @@
 // The observations of an accepted file, read into arrays, one for each unit. Each logarithm and each weight is rounded here, once; what
 // is made of a file afterwards is made of these arrays. No step is struck yet.
+#![tactic(auto)]
+
 ghost use Rattle.laws.specs.Accepted.{AcceptedFile};
 ghost use Rattle.observations.specs.Reading.{Observes};
 

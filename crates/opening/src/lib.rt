@@ -1,5 +1,7 @@
 // The call `open`, over a session whose arrays are lent: the observations of the file, the figures that are made of them and the prior
 // means are held from then on. No step is struck.
+#![tactic(auto)]
+
 ghost use Rattle.holding.specs.State.{held_in};
 ghost use Rattle.observations.specs.Arrays.{observations_at};
 ghost use Rattle.opening.specs.Opens.{Opens};

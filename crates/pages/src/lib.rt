@@ -1,4 +1,6 @@
 // The page of a mean: a line of 28 bytes for each part, with its name and index, its mean in ticks and its own weight.
+#![tactic(auto)]
+
 ghost use Rattle.std.specs.Prelude.{◌≡◌, ◌++◌, ◌≤◌, drop};
 ghost use Rattle.definitions.specs.Refusals.{year_limit};
 ghost use Rattle.definitions.specs.Matrix.{part_by_index};

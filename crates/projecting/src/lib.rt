@@ -1,4 +1,6 @@
 // The call `ultimate`, over a session whose arrays are lent: the central ultimate of one accident year, if the mean that is held passes.
+#![tactic(auto)]
+
 ghost use Rattle.holding.specs.State.{held_at};
 ghost use Rattle.projecting.specs.Projects.{ProjectsLent};
 

@@ -1,4 +1,6 @@
 // The figures of a file that has the length of its J, each in its unit.
+#![tactic(auto)]
+
 ghost use Rattle.std.specs.Prelude.{◌≡◌, ◌+◌, ◌*◌, ◌≤◌, ◌<◌, length};
 ghost use Rattle.definitions.specs.Layout.{
   unsigned,

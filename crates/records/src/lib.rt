@@ -1,4 +1,6 @@
 // Mean records: the mean that a record holds, or why it is refused, and the record of a mean.
+#![tactic(auto)]
+
 ghost use Rattle.std.specs.Prelude.{◌≡◌, ◌∷◌, ◌++◌, ◌+◌, ◌≤◌, ◌^◌, length, drop, nat_abs};
 ghost use Rattle.definitions.specs.Layout.{parts, record_length, record_of, bytes_of, complement};
 ghost use Rattle.records.specs.Records.{Writes};

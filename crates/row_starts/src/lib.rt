@@ -1,4 +1,6 @@
 // Where the rows of a block start, by document 02's constant table.
+#![tactic(auto)]
+
 ghost use Rattle.std.specs.Prelude.{◌≡◌, ◌≤◌};
 ghost use Rattle.definitions.specs.Layout.{row_start};
 ghost use Rattle.row_starts.specs.Starts.{Starts};

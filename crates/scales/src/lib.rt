@@ -1,4 +1,6 @@
 // The four units of the specification ("Words and units"), and the two formulas that turn one into another. No two of them are ever added.
+#![tactic(auto)]
+
 ghost use Rattle.std.specs.Prelude.{◌≡◌, ◌+◌, ◌/◌, ◌<◌, ◌^◌, pos};
 ghost use Rattle.definitions.specs.Logarithm.{logarithm};
 ghost use Rattle.definitions.specs.Weight.{weight};

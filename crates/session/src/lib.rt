@@ -2,6 +2,8 @@
 // over a session whose arrays are lent one by one, so that none is copied. No call asks anything of its caller; each has one
 // equation with the specification's machine, refused calls included; that of `figures`, which the machine does not have, is with its state.
 // Each call stands in a crate of its own, with its contract; here they are gathered.
+#![tactic(auto)]
+
 use chain::arrays::Figures;
 use observations::Observations;
 

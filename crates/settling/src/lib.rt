@@ -1,4 +1,6 @@
 // What the two programs share: they open the file that is given and sweep, and gather what they print before they write it.
+#![tactic(auto)]
+
 ghost use Rattle.definitions.specs.Programs.{refusal_line, spent_line};
 ghost use Rattle.settling.specs.Printed.{Prints};
 ghost use Rattle.settling.specs.Settles.{Settles};

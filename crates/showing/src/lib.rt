@@ -1,4 +1,6 @@
 // The call `figures`, over a session whose arrays are lent: the figures that judge and sweep go by, the matrix whole.
+#![tactic(auto)]
+
 ghost use Rattle.holding.specs.State.{held_at};
 ghost use Rattle.showing.specs.Shows.{Shows};
 

@@ -1,5 +1,7 @@
 // The call `strike`, over a session whose arrays are lent: a step is marked as struck, and the figures are made anew of what is left, by
 // the function that open uses.
+#![tactic(auto)]
+
 ghost use Rattle.holding.specs.State.{held_in};
 ghost use Rattle.striking.specs.Strikes.{StrikesLent};
 

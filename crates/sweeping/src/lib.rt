@@ -1,4 +1,6 @@
 // The call `sweep`, over a session whose arrays are lent: the mean that is held is swept until it passes.
+#![tactic(auto)]
+
 ghost use Rattle.holding.specs.State.{held_at};
 ghost use Rattle.sweeping.specs.SweepCall.{OpenSweep};
 ghost use Rattle.sweeping.specs.Sweeps.{Sweeps};

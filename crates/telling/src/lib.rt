@@ -1,4 +1,6 @@
 // The answers as C sees them. A refusal's number is never 0, so 0 says that the call did its job.
+#![tactic(auto)]
+
 ghost use Rattle.std.specs.Prelude.{◌≡◌};
 ghost use Rattle.opening.specs.Opens.{of_open};
 ghost use Rattle.judging.specs.Judges.{of_judge};

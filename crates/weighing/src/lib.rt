@@ -1,5 +1,7 @@
 // The call `residues`, over a session whose arrays are lent: of a mean record, whoever wrote it, the residues are written to a buffer,
 // worked out observation by observation. The session stays as it is.
+#![tactic(auto)]
+
 ghost use Rattle.holding.specs.State.{held_at};
 ghost use Rattle.weighing.specs.Weighs.{WeighsLent};
 

@@ -1,4 +1,6 @@
 // The calls `read` and `page`, over a session whose arrays are lent: the mean that is held is written to a buffer, if it passes.
+#![tactic(auto)]
+
 ghost use Rattle.holding.specs.State.{held_at};
 ghost use Rattle.writing.specs.Writes.{Reads, Pages};
 

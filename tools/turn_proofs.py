@@ -1,0 +1,272 @@
+#!/usr/bin/env python3
+"""Turns the proofs of a crate's functions that answer by `tie` into Invariants.antt and Answers.antt.
+
+usage: python3 tools/turn_proofs.py CRATE NAMES.json
+
+NAMES.json is what `rt check --generated DIR --old-names` writes of the crate. A proof that it can't turn stays.
+"""
+import json, os, re, sys
+
+W = r"[^\s(){}.;,@\"«»:]+"
+crate, names = sys.argv[1], json.load(open(sys.argv[2]))
+only = sys.argv[3:]
+norm = lambda s: s.replace("_", "-")
+TRIVIAL = {"search rules", "omega arith", "tt"}
+STOPS = {"args", "result", "ensures", "requires", "now", "invariant", "new", "initial", "given", "ranges", "auto", "is", "well_formed", "type_inv"}
+
+
+def blocks(text):
+    out, cur = [], []
+    for line in text.split("\n"):
+        if line.strip() == "":
+            if cur:
+                cur.append(line)
+            continue
+        if cur and not line[0].isspace() and (len(cur) == 0 or any(x == "" for x in cur[-1:])):
+            out.append("\n".join(cur).rstrip())
+            cur = []
+        cur.append(line)
+    if cur:
+        out.append("\n".join(cur).rstrip())
+    return out
+
+
+def signature(block):
+    """name, marks, type, rest"""
+    lines = [l for l in block.split("\n") if not l.startswith("--")]
+    if not lines:
+        return None
+    m = re.match(rf"^((?:pub |abbrev |unfoldable )*)({W}) : ", lines[0])
+    return (m[2], m[1]) if m else None
+
+
+def turn(fn, v):
+    path = fn.replace(".", "/")
+    folder = f"crates/{crate}/proofs/{path}"
+    src = f"{folder}/Proof.antt"
+    if not os.path.exists(src):
+        return
+    text = open(src, encoding="utf8").read()
+    if " as tie" not in text:
+        print("by hand:", src)
+        return
+    needs = {}
+    for old, new in v["needs"]:
+        needs.setdefault(norm(old), new)
+    steps, states = {}, {}
+    for (old, parent, step, *_), new in zip(v["places"], v["places_by_name"]):
+        states[norm(old)] = new
+        if step and step[0]:
+            steps[norm(step[0])] = step[1]
+    loops = {}
+    for (old_new, variables), changed in zip(v["loops"], v["changed"]):
+        loops[norm(old_new[0])] = (old_new[1], variables, changed)
+    # several loops: loop, loop2
+    head, body_blocks = [], []
+    comment = []
+    for b in blocks(text):
+        for l in b.split("\n"):
+            pass
+        body_blocks.append(b)
+    # header: comments and use lines
+    uses, rest, first_comment = [], [], []
+    for b in body_blocks:
+        lines = b.split("\n")
+        if any(l.startswith("use ") for l in lines):
+            for l in lines:
+                if l.startswith("use "):
+                    if not re.search(r"\.(Statement|Tie)(\.|\s|$)", l):
+                        uses.append(l)
+                elif l.strip():
+                    first_comment.append(l)
+        else:
+            rest.append(b)
+    local = set()
+    for b in rest:
+        for l in b.split("\n"):
+            m = re.match(rf"^\s*(?:(?:pub|abbrev|unfoldable|record|data) )*({W})(?: [^:]*)? :(?= |$)", l)
+            if m:
+                local.add(m[1])
+
+    def paths(s):
+        notstate = set()
+        for m in re.finditer(rf"let ({W})(?: : [^=]*)? = \(?(?:{W}| )*\)?[^=\n ]*?\.(args|loop\d*|requires|ensures|pre|now|invariant|inv|new)\b(?:\.[^\s]+)? in\b", s):
+            notstate.add(m[1])
+        # states in types
+        def st(m):
+            name = states.get(norm(m[1]))
+            if not name:
+                print(f"  {src}: no state {m[1]}")
+                return m[0]
+            return "goal." + name
+        s = re.sub(rf"tie\.({W})((?: invariant-loop\S*)*(?: decreases-loop\S*)*)", st, s)
+
+        def one(m):
+            segs = m[2].split(".")[1:]
+            root = m[1]
+            outs = []
+            state = root not in notstate
+            for i, seg in enumerate(segs):
+                new = seg
+                if state:
+                    if seg == "before":
+                        pass
+                    elif norm(seg) in steps:
+                        new = steps[norm(seg)]
+                        state = False
+                    elif seg == "pre":
+                        new = "requires"; state = False
+                    else:
+                        state = False
+                else:
+                    prev = segs[i - 1] if i else ""
+                    if seg == "inv":
+                        new = "invariant"
+                    elif seg == "left" and re.match(r"(if\d*|loop\d*-test)$", prev):
+                        new = "true"
+                    elif seg == "right" and re.match(r"(if\d*|loop\d*-test)$", prev):
+                        new = "false"
+                    elif seg == "last" and norm(prev) in steps:
+                        new = "new"
+                outs.append(new)
+            return root + "".join("." + o for o in outs)
+        return re.sub(rf"({W}|\))((?:\.{W})+)", lambda m: one(m) if not re.match(r"[A-Z]\w*$", m[1]) or True else m[0], s)
+
+    inv_blocks, ans_blocks, dropped = [], [], []
+    inv_text = ""
+    for b in rest:
+        sig = signature(b)
+        code = [l for l in b.split("\n")]
+        comments = [l for l in code if l.startswith("--")]
+        lines = [l for l in code if not l.startswith("--")]
+        name = sig[0] if sig else ""
+        m = re.match(rf"^abbrev (?:pub )?({W}) : tie\.((?:invariant|decreases)-loop\d*)$", lines[0]) if lines else None
+        if m:
+            kind = "invariant" if m[2].startswith("invariant") else "decreases"
+            key = m[2].split("-", 1)[1]
+            new, variables, changed = loops[norm(key)]
+            clause = "\n".join(lines[1:])
+            args, body = clause.split(" =", 1) if not re.match(rf"^{re.escape(m[1])} [^=]*=\n", clause) else clause.split(" =", 1)
+            params = args.split()[1:]
+            order = [("l.initial." if c else "l.") + x for x, c in zip(variables, changed)] + ["l." + x for x, c in zip(variables, changed) if c]
+            if len(params) != len(order):
+                print(f"  {src}: {m[2]} has {len(params)} arguments, and there are {len(order)}: {variables} {changed}")
+            table = dict(zip(params, order))
+
+            def sub(t):
+                # inside lambdas a bound name may hide: left as it is
+                return re.sub(rf"(?<![\w.'])({'|'.join(sorted(map(re.escape, table), key=len, reverse=True))})(?![\w'₀-₉])", lambda k: table[k[1]], t) if table else t
+            bound = set(re.findall(r"λ ([^.]*)\.", body)) | set(re.findall(r"\((\w+) : ", body))
+            bound = {x for y in bound for x in y.split()}
+            hid = bound & set(table)
+            for h in hid:
+                print(f"  {src}: bound {h} in {m[2]}")
+                table.pop(h)
+            body = sub(body)
+            inv_blocks.append("\n".join(comments + [f"abbrev pub {kind}-{new} : goal.{kind}-{new}", f"{kind}-{new} l ={body}"]))
+            inv_text += body
+            continue
+        if re.search(r": \{M : Type 1\} → statement M", b):
+            continue
+        m = re.match(rf"^(?:pub )?({W}) : tie\.Need-({W})(?: .*)?$", lines[0]) if lines else None
+        if m:
+            old = re.sub(r"^(overflow|nonzero|bounds|offset_bounds)-", "", m[2])
+            new = needs.get(norm(old)) or needs.get(norm(m[2]))
+            if not new:
+                dropped.append(m[2])
+                continue
+            clause = lines[1:]
+            pre = []
+            while clause and clause[0].startswith("unfolding"):
+                pre.append(clause[0]); clause = clause[1:]
+            c = "\n".join(clause)
+            h, body = c.split("=", 1)
+            params = [p for p in h.split()[1:] if p != "κs"]
+            if body.strip() in TRIVIAL and not pre:
+                dropped.append(f"{new} (auto)")
+                continue
+            body = paths(body)
+            ans_blocks.append((new, "\n".join(comments + [f"pub {new} : goal.{new}"] + pre + [f"{new} {' '.join(params)} ={body}"])))
+            continue
+        ans_blocks.append((None, paths(b)))
+    # which local blocks do the invariants need
+    moved = []
+    if inv_blocks:
+        need = set(re.findall(W, inv_text)) & local
+        keep = []
+        again = True
+        take = set()
+        while again:
+            again = False
+            for i, (n, b) in enumerate(ans_blocks):
+                if n is None and i not in take:
+                    decl = set()
+                    for l in b.split("\n"):
+                        mm = re.match(rf"^\s*(?:(?:pub|abbrev|unfoldable|record|data) )*({W})(?: [^:]*)? :(?= |$)", l)
+                        if mm: decl.add(mm[1])
+                    if decl & need:
+                        take.add(i); again = True
+                        need |= set(re.findall(W, b)) & local
+        for i, (n, b) in enumerate(ans_blocks):
+            (moved if i in take else keep).append((n, b))
+        ans_blocks = keep
+    c_ = crate
+    mod = f"Rattle.{crate}.proofs.{fn}"
+    def used(block_text, lines):
+        toks = set(re.findall(r"[^\s(){}.;,@\"«»]+", block_text))
+        out = []
+        for l in lines:
+            mm = re.match(r"use ([^{]*)\.\{(.*)\}$", l)
+            if not mm:
+                out.append(l); continue
+            items = [x.strip() for x in mm[2].split(",")]
+            good = []
+            for it in items:
+                n = it.split(" as ")[-1]
+                parts = [x for x in n.split("◌") if x]
+                if n in toks or (parts and "◌" in n and any(p in toks or p in block_text for p in parts)):
+                    good.append(it)
+            if good:
+                out.append(f"use {mm[1]}.{{{', '.join(good)}}}")
+        return out
+    if inv_blocks:
+        mv = []
+        for n, b in moved:
+            b = re.sub(r"^(abbrev |unfoldable |record |data )?(?!pub )(?=\S)", lambda m: (m[1] or ""), b)
+            first = [i for i, l in enumerate(b.split("\n")) if not l.startswith("--")][0]
+            ls = b.split("\n")
+            l0 = ls[first]
+            if not re.match(r"^(module|infix)", l0) and "pub " not in l0:
+                l0 = re.sub(r"^(abbrev |unfoldable )?", lambda m: (m[1] or "") + "pub ", l0)
+            ls[first] = l0
+            if l0.startswith("pub record") :
+                ls = ls[: first + 1] + [re.sub(r"^  (?!pub)(?=\S+ : )", "  pub ", x) for x in ls[first + 1:]]
+            mv.append("\n".join(ls))
+        t = "\n\n".join(mv + inv_blocks)
+        u = used(t, uses)
+        open(f"{folder}/Invariants.antt", "w", encoding="utf8").write("\n".join(first_comment + u + [f"use {mod}.Given as goal"]) + "\n\n" + t + "\n")
+    t = "\n\n".join(b for _, b in ans_blocks)
+    if any(n for n, _ in ans_blocks):
+        u = used(t, uses)
+        mvnames = []
+        for n, b in moved:
+            for l in b.split("\n"):
+                mm = re.match(rf"^(?:  )?(?:(?:pub|abbrev|unfoldable|record|data) )*({W})(?: [^:]*)? :(?= |$)", l)
+                if mm and mm[1] in set(re.findall(W, t)):
+                    mvnames.append(mm[1])
+        if mvnames:
+            u.append(f"use {mod}.Invariants.{{{', '.join(dict.fromkeys(mvnames))}}}")
+        open(f"{folder}/Answers.antt", "w", encoding="utf8").write("\n".join(first_comment + u + [f"use {mod}.Goals as goal"]) + "\n\n" + t + "\n")
+    os.makedirs(f"/tmp/oldproofs/{crate}/{path}", exist_ok=True)
+    os.rename(src, f"/tmp/oldproofs/{crate}/{path}/Proof.antt")
+    if not os.listdir(folder):
+        os.rmdir(folder)
+    print(fn, "dropped", dropped)
+
+
+pre = f"Rattle-{crate}-proofs."
+for k, v in names.items():
+    if k.startswith(pre) and k.endswith(".Lts"):
+        fn = k[len(pre):-4]
+        if not only or fn in only:
+            turn(fn, v)
