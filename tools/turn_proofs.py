@@ -88,6 +88,8 @@ def turn(fn, v):
             if m:
                 local.add(m[1])
 
+    places = set()
+
     def paths(s):
         notstate = set()
         for m in re.finditer(rf"let ({W})(?: : [^=]*)? = \(?(?:{W}| )*\)?[^=\n ]*?\.(args|loop\d*|requires|ensures|pre|now|invariant|inv|new)\b(?:\.[^\s]+)? in\b", s):
@@ -98,8 +100,9 @@ def turn(fn, v):
             if not name:
                 print(f"  {src}: no state {m[1]}")
                 return m[0]
-            return "goal." + name
-        s = re.sub(rf"tie\.({W})((?: invariant-loop\S*)*(?: decreases-loop\S*)*)", st, s)
+            places.add(name)
+            return name
+        s = re.sub(rf"tie\.({W})(?: (?:invariant|decreases)-loop\d*)*", st, s)
 
         def one(m):
             segs = m[2].split(".")[1:]
@@ -116,11 +119,17 @@ def turn(fn, v):
                         state = False
                     elif seg == "pre":
                         new = "requires"; state = False
+                    elif seg == "fits" and i + 1 < len(segs):
+                        new = "ranges"; state = False
+                    elif seg == "type-inv":
+                        new = "type_inv"; state = False
                     else:
                         state = False
                 else:
                     prev = segs[i - 1] if i else ""
-                    if seg == "inv":
+                    if seg == "type-inv":
+                        new = "type_inv"
+                    elif seg == "inv":
                         new = "invariant"
                     elif seg == "left" and re.match(r"(if\d*|loop\d*-test)$", prev):
                         new = "true"
@@ -163,6 +172,7 @@ def turn(fn, v):
                 print(f"  {src}: bound {h} in {m[2]}")
                 table.pop(h)
             body = sub(body)
+            body = re.sub(r"\(?to_z w64 (l\.(?:initial\.)?[\w.]+)\)?", r"\1", body) if False else re.sub(r"to_z w64 (l\.(?:initial\.)?[\w.]+)", r"\1", body)
             inv_blocks.append("\n".join(comments + [f"abbrev pub {kind}-{new} : goal.{kind}-{new}", f"{kind}-{new} l ={body}"]))
             inv_text += body
             continue
@@ -256,7 +266,7 @@ def turn(fn, v):
                     mvnames.append(mm[1])
         if mvnames:
             u.append(f"use {mod}.Invariants.{{{', '.join(dict.fromkeys(mvnames))}}}")
-        open(f"{folder}/Answers.antt", "w", encoding="utf8").write("\n".join(first_comment + u + [f"use {mod}.Goals as goal"]) + "\n\n" + t + "\n")
+        open(f"{folder}/Answers.antt", "w", encoding="utf8").write("\n".join(first_comment + u + [f"use {mod}.Goals as goal"] + ([f"use {mod}.Goals.{{{', '.join(sorted(places & set(re.findall(W, t))))}}}"] if places & set(re.findall(W, t)) else [])) + "\n\n" + t + "\n")
     os.makedirs(f"/tmp/oldproofs/{crate}/{path}", exist_ok=True)
     os.rename(src, f"/tmp/oldproofs/{crate}/{path}/Proof.antt")
     if not os.listdir(folder):
