@@ -58,6 +58,16 @@ def turn(fn, v):
         states[norm(old)] = new
         if step and step[0]:
             steps[norm(step[0])] = step[1]
+    parent = {}
+    old_to_new = {old: new for (old, *_), new in zip(v["places"], v["places_by_name"])}
+    for (old, up, *_), new in zip(v["places"], v["places_by_name"]):
+        parent[new] = old_to_new.get(up)
+    asked = {new: at[1] for (_, new), at in zip(v["needs"], v["asked_at"])}
+    arms = {}
+    for arm in v["arms"]:
+        for field, step, way in (arm[2] if arm else []):
+            if not field.endswith("-own"):
+                arms[(norm(step), tuple(way))] = [arm[0], field]
     loops = {}
     for (old_new, variables), changed in zip(v["loops"], v["changed"]):
         loops[norm(old_new[0])] = (old_new[1], variables, changed)
@@ -108,6 +118,19 @@ def turn(fn, v):
             segs = m[2].split(".")[1:]
             root = m[1]
             outs = []
+            segs = [x[:-4] if x.endswith("_lem") and norm(x[:-4]) in steps else x for x in segs]
+            k = 0
+            while k < len(segs) and segs[k] == "before":
+                k += 1
+            if k < len(segs):
+                if root not in notstate:
+                    segs = segs[k:]
+                    if not segs[0] == "before" and root == ")":
+                        pass
+                    for n in (3, 2, 1):
+                        found = arms.get((norm(segs[0]), tuple(segs[1 : 1 + n])))
+                        if found:
+                            return root + "".join("." + o for o in found + segs[1 + n :])
             state = root not in notstate
             for i, seg in enumerate(segs):
                 new = seg
@@ -199,6 +222,108 @@ def turn(fn, v):
             ans_blocks.append((new, "\n".join(comments + [f"pub {new} : goal.{new}"] + pre + [f"{new} {' '.join(params)} ={body}"])))
             continue
         ans_blocks.append((None, paths(b)))
+    helpers = {}
+    for n, b in ans_blocks:
+        if n is None:
+            inner = None
+            for l in b.split("\n"):
+                mm = re.match(rf"^module _ \(({W}) : ({W})\)", l)
+                if mm and mm[2] in parent:
+                    inner = mm[2]
+                mm = re.match(rf"^( *)(?:(?:pub|abbrev|unfoldable) )*({W}) : (.*)$", l)
+                if mm and inner and mm[1]:
+                    helpers[mm[2]] = inner
+                elif mm and not mm[1]:
+                    k = re.match(rf"\(({W}) : ({W})\)", mm[3]) or re.match(rf"()({W}) →", mm[3])
+                    if k and k[2] in parent:
+                        helpers[mm[2]] = k[2]
+
+    # the test of `!x` says x ≡ false, or x ≡ true
+    ans_blocks = [(n, re.sub(rf"\(not_(?:yes|no) ({W}(?:\.{W})*\.if-not-{W}\.(?:true|false))\)", r"\1", b)) for n, b in ans_blocks]
+    ans_blocks = [(n, re.sub(rf"not_(?:yes|no) ({W}(?:\.{W})*\.if-not-{W}\.(?:true|false))", r"\1", b)) for n, b in ans_blocks]
+
+    def above(state, wanted):
+        n = 0
+        while state and state != wanted:
+            state, n = parent.get(state), n + 1
+        return n if state else None
+
+    # functions that lead from a place to an earlier one: every field of that one can be named from the later one
+    leads = set()
+    cleaned = []
+    for n, b in ans_blocks:
+        if n is None:
+            m1 = re.match(rf"^(?:--.*\n)*abbrev ({W}) : (?:\(?{W}(?: : {W}\))? → )({W})\n(?:{W}) {W} = \S+$", b)
+            if m1 and m1[2] in parent:
+                leads.add(m1[1])
+                helpers.pop(m1[1], None)
+                continue
+            for m1 in re.finditer(rf"^  abbrev ({W}) : ({W})\n  ({W}) = [^\n]*\n(?:\n|$)", b + "\n", re.M):
+                if m1[2] in parent and m1[1] == m1[3]:
+                    leads.add(m1[1])
+                    helpers.pop(m1[1], None)
+            b = re.sub(rf"^  abbrev ({W}) : ({W})\n  ({W}) = [^\n]*\n(?:\n|$)", lambda m: "" if m[2] in parent and m[1] == m[3] else m[0], b + "\n", flags=re.M).rstrip("\n")
+        cleaned.append((n, b))
+    ans_blocks = cleaned
+
+    def led(b, var, own_leads):
+        """Every expression of a place becomes the variable."""
+        V = re.escape(var)
+        old = None
+        while old != b:
+            old = b
+            b = re.sub(rf"(?<![\w.'-])({V})(?:\.before)+(?![\w-])", var, b)
+            b = re.sub(rf"\({V} {V}\)", var, b)
+            if leads:
+                L = "|".join(sorted(map(re.escape, leads), key=len, reverse=True))
+                b = re.sub(rf"\((?:{L}) {V}\)(?:\.before)*", var, b)
+                if own_leads:
+                    b = re.sub(rf"(?<![\w.'-])(?:{'|'.join(sorted(map(re.escape, own_leads), key=len, reverse=True))})(?:\.before)*(?![\w'-])(?! :)", var, b)
+            m = re.search(rf"let ({W}) = (?:{V}|(?:{'|'.join(sorted(map(re.escape, leads), key=len, reverse=True)) or '§'}) {V}) in(?: |\n +)", b)
+            if m:
+                x = m[1]
+                b = b[: m.start()] + re.sub(rf"(?<![\w.'-]){re.escape(x)}(?![\w'-])", var, b[m.end():])
+        return b
+
+    def viewed(b, var, state, goal_name):
+        if not helpers:
+            return b
+        H = "|".join(sorted(map(re.escape, helpers), key=len, reverse=True))
+        wanted = [helpers[m[1]] for m in re.finditer(rf"(?<![\w.'-])({H}) {re.escape(var)}(?![\w.'-])", b)]
+        many = {w for w in wanted if w != state and wanted.count(w) > 1 and goal_name}
+        word = lambda st: re.sub(r"\W", "_", st).lower()
+
+        def fit(m):
+            st = helpers[m[1]]
+            if st == state:
+                return m[0]
+            if goal_name:
+                return f"{m[1]} {word(st)}" if st in many else f"{m[1]} (goal.at.{goal_name} {var}).{st}"
+            n = above(state, st)
+            return m[0] if n is None else f"{m[1]} {var}{'.before' * n}"
+        b = re.sub(rf"(?<![\w.'-])({H}) {re.escape(var)}(?![\w.'-])", fit, b)
+        if many:
+            lets = "".join(f"\n    let {word(st)} = (goal.at.{goal_name} {var}).{st} in" for st in sorted(many))
+            b = re.sub(rf"^({re.escape(goal_name)} {re.escape(var)} =)\s*", lambda m: m[1] + lets + "\n    ", b, count=1, flags=re.M)
+        return b
+
+    turned = []
+    for n, b in ans_blocks:
+        if n:
+            mm = re.search(rf"^{re.escape(n)} ({W})", b, re.M)
+            if mm:
+                b = viewed(led(b, mm[1], set()), mm[1], asked.get(n), n)
+        else:
+            mm = re.match(rf"(?:--.*\n)*module _ \(({W}) : ({W})\)", b)
+            if mm and mm[2] in parent:
+                inner = {x for x in leads}
+                b = viewed(led(b, mm[1], inner), mm[1], mm[2], None)
+            else:
+                mm = re.search(rf"^({W}) : \(({W}) : ({W})\)", b, re.M)
+                if mm and mm[3] in parent:
+                    b = viewed(led(b, mm[2], set()), mm[2], mm[3], None)
+        turned.append((n, b))
+    ans_blocks = turned
     # which local blocks do the invariants need
     moved = []
     if inv_blocks:

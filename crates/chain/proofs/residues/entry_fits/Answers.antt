@@ -2,7 +2,6 @@
 use Prim.Native.Nat.{◌≤◌}
 use mathlib.Core.Path.{◌≡◌, sym, subst}
 use mathlib.Core.Bool.{true, false, not}
-use borrow.Author.Rules.{rules}
 use lib.Dec.{T}
 use lib.IntN.{ℤ, pos, neg_ℤ, nat_abs}
 use lib.Signed.{◌≤ℤ◌, ◌<ℤ◌, lt_z_yes, lt_z_no, lt_z}
@@ -10,8 +9,7 @@ use mir.Facts.{to_z-of_z}
 use Rattle.integers.specs.Linear.{linear, zarith}
 use Rattle.chain.specs.Decides.{decided_yes, decided_no}
 use Rattle.chain.specs.Fitting.{entry_limit}
-use Rattle.chain.proofs.residues.entry_fits.Statement.{statement}
-use Rattle.chain.proofs.residues.entry_fits.Tie as tie
+use Rattle.chain.proofs.residues.entry_fits.Goals as goal
 
 below : (z : ℤ) → z <ℤ neg_ℤ (pos entry_limit) → ¬ (nat_abs z ≤ entry_limit)
 below z past small = omega (zarith, simp linear at past, simp linear at small)
@@ -29,25 +27,16 @@ less taken = lt_z_yes (subst T (sym taken) tt)
 not_less : {a b : ℤ} → lt_z a b ≡ false → b ≤ℤ a
 not_less left = lt_z_no (subst (λ b. T (not b)) (sym left) tt)
 
-sub-if1 : tie.Need-overflow-sub-if1
-sub-if1 c = search rules
+pub returns-then-entry : goal.returns-then-entry
+returns-then-entry c =
+    decided_no (below c.args.entry (subst (λ z. z <ℤ neg_ℤ (pos entry_limit)) (to_z-of_z c.ranges.entry) (less c.if-entry.true)))
 
-returns : tie.Need-returns
+pub returns-then-entry-gt-ENTRY_LIMIT : goal.returns-then-entry-gt-ENTRY_LIMIT
+returns-then-entry-gt-ENTRY_LIMIT c =
+    decided_no (above c.args.entry (subst (λ z. pos entry_limit <ℤ z) (to_z-of_z c.ranges.entry) (less c.if-entry-gt-ENTRY_LIMIT.true)))
+
+pub returns : goal.returns
 returns c =
-    let s = c.before in
-    decided_no (below s.args.entry (subst (λ z. z <ℤ neg_ℤ (pos entry_limit)) (to_z-of_z s.ranges.entry) (less c.if1.true)))
-
-returns-2 : tie.Need-returns-2
-returns-2 c =
-    let s = c.before.before in
-    decided_no (above s.args.entry (subst (λ z. pos entry_limit <ℤ z) (to_z-of_z s.ranges.entry) (less c.if2.true)))
-
-returns-3 : tie.Need-returns-3
-returns-3 c =
-    let s = c.before.before in
-    decided_yes (inside s.args.entry
-    (subst (λ z. neg_ℤ (pos entry_limit) ≤ℤ z) (to_z-of_z s.ranges.entry) (not_less c.before.if1.false))
-    (subst (λ z. z ≤ℤ pos entry_limit) (to_z-of_z s.ranges.entry) (not_less c.if2.false)))
-
-pub entry-fits-spec : {M : Type 1} → statement M
-entry-fits-spec = tie.close (tie.spec sub-if1 returns returns-2 returns-3)
+    decided_yes (inside c.args.entry
+    (subst (λ z. neg_ℤ (pos entry_limit) ≤ℤ z) (to_z-of_z c.ranges.entry) (not_less c.if-entry.false))
+    (subst (λ z. z ≤ℤ pos entry_limit) (to_z-of_z c.ranges.entry) (not_less c.if-entry-gt-ENTRY_LIMIT.false)))

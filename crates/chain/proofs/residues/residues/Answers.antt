@@ -22,12 +22,9 @@ use Rattle.chain.specs.Fitting.{Inside, row_limit, residue_limit}
 use Rattle.chain.specs.Residues.{OfMean, RowFits, RowsFit}
 use Rattle.chain.specs.Sizes.{row_fits, sum_fits, difference_fits, mean_at_lem, residue_at_lem}
 use Rattle.chain.specs.Turned.{Turned, turned_none, turned_next, turned_as, here_or_before}
-use Rattle.chain.proofs.residues.residues.Statement.{statement}
-use Rattle.chain.proofs.residues.residues.Tie as tie
-
--- the residue of part i by its first n products
-abbrev so_far_of : List ℤ → List ℤ → List ℤ → ℕ → ℕ → ℤ
-so_far_of A b μ n i = row_product A i n μ -ℤ part b i
+use Rattle.chain.proofs.residues.residues.Invariants.{so_far_of}
+use Rattle.chain.proofs.residues.residues.Goals as goal
+use Rattle.chain.proofs.residues.residues.Goals.{Else-not-row}
 
 -- the first n rows fit
 module _ {last : ℕ} {A b μ : List ℤ} (h : OfMean last A b μ) (n : ℕ) (few : n ≤ parts last) (rows : RowsFit A n) where
@@ -105,166 +102,121 @@ module _ {last : ℕ} {A b μ : List ℤ} {k : ℕ} {z : ℤ} (h : Reached last 
         turned_next (turned_as mirrored (λ i i-below. with_mirrored i (so_far.front i i-below)) so_far.rest)
         (omega (arith, h.below, h.asked.years)) (kept w64 difference difference_small)
 
-abbrev invariant-loop : tie.invariant-loop
-invariant-loop last matrix right_hand mean parts found₀ k₀ found k =
-    (k ≤ parts) × RowsFit matrix k × Turned k (so_far_of matrix right_hand mean k) (λ i. pos 0) found
+pub overflow_mul-parts : goal.overflow_mul-parts
+overflow_mul-parts c = omega (arith, c.requires.years)
 
-abbrev decreases-loop : tie.decreases-loop
-decreases-loop last matrix right_hand mean parts found₀ k₀ found k = parts - k
+pub overflow_add-parts : goal.overflow_add-parts
+overflow_add-parts c = omega (arith, c.requires.years)
 
-mul-parts : tie.Need-overflow-mul-parts invariant-loop decreases-loop
-mul-parts c = omega (arith, c.requires.years)
+pub loop-k-init : goal.loop-k-init
+loop-k-init c = (omega arith, λ i none. absurd (omega arith), turned_none refl (λ i. empty_at 31 i (pos 0)))
 
-add_parts : tie.Need-overflow-add-parts invariant-loop decreases-loop
-add_parts c = omega (arith, c.requires.years)
-
-loop-holds : tie.Need-loop-init invariant-loop decreases-loop
-loop-holds c = (omega arith, λ i none. absurd (omega arith), turned_none refl (λ i. empty_at 31 i (pos 0)))
-
-row-times-requires : tie.Need-row-times-requires invariant-loop decreases-loop
-row-times-requires c κs =
-    let at = c.before.before.loop in
-    let s = c.before.before.before in
-    let below = c.before.loop-test.true in
-    let small-so-far = so_far_small s.requires at.k at.invariant.0 at.invariant.1 in
+pub row_times-row-requires : goal.row_times-row-requires
+row_times-row-requires c =
+    let at = c.loop-k in
+    let below = c.loop-k-test.true in
+    let small-so-far = so_far_small c.requires at.k at.invariant.0 at.invariant.1 in
     record {
-      few = omega (arith, s.requires.years);
-      inside = record { small = λ i i-below. s.requires.inside.small i (omega arith) };
+      few = omega (arith, c.requires.years);
+      inside = record { small = λ i i-below. c.requires.inside.small i (omega arith) };
       long = at.invariant.2.long;
       small = λ i i-below. subst (λ r. nat_abs r ≤ residue_limit) (sym (at.invariant.2.front i i-below)) (small-so-far i i-below);
     }
 
-returns : tie.Need-returns invariant-loop decreases-loop
-returns c =
-    let l = c.before.before.before.before in
-    let row = c.before.before.row-times.ensures.fits in
+pub returns-then-not-row : goal.returns-then-not-row
+returns-then-not-row c =
+    let row = c.row_times-row.ensures.fits in
     record {
-      fit = decided_no (λ all. row.when_no (not_yes c.if1.true) (all l.before.loop.k l.loop-test.true));
+      fit = decided_no (λ all. row.when_no (not_yes c.if-not-row.true) (all c.loop-k.k c.loop-k-test.true));
       are = λ e. absurd (false≢true e);
     }
 
 -- a row that fits
-module _ (c : tie.Else1 invariant-loop decreases-loop) where
-  abbrev at : tie.At-loop invariant-loop decreases-loop
-  at = c.before.before.before.before.before
+module _ (c : Else-not-row) where
+  below : c.loop-k.k < parts c.args.last
+  below = c.loop-k-test.true
 
-  abbrev s : tie.Start invariant-loop decreases-loop
-  s = at.before
+  in_array : c.loop-k.k < 31
+  in_array = omega (arith, below, c.requires.years)
 
-  below : at.loop.k < parts s.args.last
-  below = c.before.before.before.before.loop-test.true
-
-  in_array : at.loop.k < 31
-  in_array = omega (arith, below, s.pre.years)
-
-  reached : Reached s.args.last s.args.matrix.now s.args.right_hand.now s.args.mean.now
-      at.loop.k c.before.before.row-times.result.sum
+  reached : Reached c.args.last c.args.matrix.now c.args.right_hand.now c.args.mean.now
+      c.loop-k.k c.row_times-row.result.sum
   reached =
-      let row = c.before.before.row-times.ensures in
-      let fits-too = row.fits.when_yes (not_no c.if1.false) in
+      let row = c.row_times-row.ensures in
+      let fits-too = row.fits.when_yes (not_no c.if-not-row.false) in
       record {
-        asked = s.pre;
+        asked = c.requires;
         below = below;
-        rows = here_or_before (RowFits s.args.matrix.now) at.loop.k fits-too at.loop.inv.1;
-        sums = row.is (not_no c.if1.false);
+        rows = here_or_before (RowFits c.args.matrix.now) c.loop-k.k fits-too c.loop-k.invariant.1;
+        sums = row.is (not_no c.if-not-row.false);
       }
 
-mul-found : tie.Need-overflow-mul-found invariant-loop decreases-loop
-mul-found c = omega (arith, in_array c)
+pub overflow_mul-found : goal.overflow_mul-found
+overflow_mul-found c = omega (arith, in_array c)
 
-add-found : tie.Need-overflow-add-found invariant-loop decreases-loop
-add-found c = omega (arith, in_array c)
+pub overflow_add-found : goal.overflow_add-found
+overflow_add-found c = omega (arith, in_array c)
 
-mul-found-2 : tie.Need-overflow-mul-found-2 invariant-loop decreases-loop
-mul-found-2 c = omega (arith, in_array c)
+pub offset_bounds-matrix-k : goal.offset_bounds-matrix-k
+offset_bounds-matrix-k c = omega (arith, in_array c)
 
-element-copy-out-found : tie.Need-element-copy-out-found invariant-loop decreases-loop
-element-copy-out-found c = omega (arith, in_array c)
+pub bounds-matrix-k : goal.bounds-matrix-k
+bounds-matrix-k c = omega (arith, in_array c)
 
-mul-found-3 : tie.Need-overflow-mul-found-3 invariant-loop decreases-loop
-mul-found-3 c = omega (arith, in_array c.before)
+pub offset_bounds-mean-k : goal.offset_bounds-mean-k
+offset_bounds-mean-k c = omega (arith, in_array (goal.at.offset_bounds-mean-k c).Else-not-row)
 
-element-copy-out-found-2 : tie.Need-element-copy-out-found-2 invariant-loop decreases-loop
-element-copy-out-found-2 c = in_array c.before
+pub bounds-mean-k : goal.bounds-mean-k
+bounds-mean-k c = in_array (goal.at.bounds-mean-k c).Else-not-row
 
-mul-found-4 : tie.Need-overflow-mul-found-4 invariant-loop decreases-loop
-mul-found-4 c = let h = reached c.before.before in fits (product h) (product_small h)
+pub overflow_mul-found-in-loop-k : goal.overflow_mul-found-in-loop-k
+overflow_mul-found-in-loop-k c = let h = reached (goal.at.overflow_mul-found-in-loop-k c).Else-not-row in fits (product h) (product_small h)
 
-add-found-2 : tie.Need-overflow-add-found-2 invariant-loop decreases-loop
-add-found-2 c = let h = reached c.before.before.before.before in fits (total h) (total_small h)
+pub overflow_add-found-in-loop-k : goal.overflow_add-found-in-loop-k
+overflow_add-found-in-loop-k c = let h = reached (goal.at.overflow_add-found-in-loop-k c).Else-not-row in fits (total h) (total_small h)
 
-mul-found-5 : tie.Need-overflow-mul-found-5 invariant-loop decreases-loop
-mul-found-5 c = omega (arith, in_array c.before.before.before.before)
+pub offset_bounds-right_hand-k : goal.offset_bounds-right_hand-k
+offset_bounds-right_hand-k c = omega (arith, in_array (goal.at.offset_bounds-right_hand-k c).Else-not-row)
 
-element-copy-out-found-3 : tie.Need-element-copy-out-found-3 invariant-loop decreases-loop
-element-copy-out-found-3 c = in_array c.before.before.before.before
+pub bounds-right_hand-k : goal.bounds-right_hand-k
+bounds-right_hand-k c = in_array (goal.at.bounds-right_hand-k c).Else-not-row
 
-sub-found : tie.Need-overflow-sub-found invariant-loop decreases-loop
-sub-found c = let h = reached c.before.before.before.before.before in fits (difference h) (difference_small h)
+pub overflow_sub-found : goal.overflow_sub-found
+overflow_sub-found c = let h = reached (goal.at.overflow_sub-found c).Else-not-row in fits (difference h) (difference_small h)
 
-mul-found-6 : tie.Need-overflow-mul-found-6 invariant-loop decreases-loop
-mul-found-6 c = omega (arith, in_array c.before.before.before.before.before)
+pub offset_bounds-found-k : goal.offset_bounds-found-k
+offset_bounds-found-k c = omega (arith, in_array (goal.at.offset_bounds-found-k c).Else-not-row)
 
-array-set-from-found : tie.Need-array-set-from-found invariant-loop decreases-loop
-array-set-from-found c = in_array c.before.before.before.before.before
+pub bounds-found-k : goal.bounds-found-k
+bounds-found-k c = in_array (goal.at.bounds-found-k c).Else-not-row
 
-add-k : tie.Need-overflow-add-k invariant-loop decreases-loop
-add-k c = omega (arith, in_array c.before.before.before.before.before)
+pub overflow_add-k : goal.overflow_add-k
+overflow_add-k c = omega (arith, in_array (goal.at.overflow_add-k c).Else-not-row)
 
-loop-less : tie.Need-loop-smaller invariant-loop decreases-loop
-loop-less c = omega (arith, below c.before.before.before.before.before)
+pub loop-k-smaller : goal.loop-k-smaller
+loop-k-smaller c = omega (arith, below (goal.at.loop-k-smaller c).Else-not-row)
 
-loop-again : tie.Need-loop-preserved invariant-loop decreases-loop
-loop-again c =
-    let e = c.before.before.before.before.before in
-    let h = reached e in (
-      omega (arith, below e),
+pub loop-k-preserved : goal.loop-k-preserved
+loop-k-preserved c =
+    let else_not_row = (goal.at.loop-k-preserved c).Else-not-row in
+    let h = reached else_not_row in (
+      omega (arith, below else_not_row),
       h.rows,
-      next h (at e).loop.invariant.2 (e.before.before.row-times.ensures.mirrored (not_no e.if1.false)),
+      next h c.loop-k.invariant.2 (c.row_times-row.ensures.mirrored (not_no c.if-not-row.false)),
     )
 
-returns-2 : tie.Need-returns-2 invariant-loop decreases-loop
-returns-2 c =
-    let at = c.before.loop in
-    let s = c.before.before in
-    let A = s.args.matrix.now in
-    let b = s.args.right_hand.now in
-    let μ = s.args.mean.now in
-    let all : at.k ≡ parts s.args.last = omega (arith, at.invariant.0, c.loop-test.false) in
+pub returns : goal.returns
+returns c =
+    let at = c.loop-k in
+    let A = c.args.matrix.now in
+    let b = c.args.right_hand.now in
+    let μ = c.args.mean.now in
+    let all : at.k ≡ parts c.args.last = omega (arith, at.invariant.0, c.loop-k-test.false) in
     record {
       fit = decided_yes (λ k below. at.invariant.1 k (omega arith));
       are = λ _. record {
         at = λ k below. at.invariant.2.front k (omega arith)
-            ∙ ap₂ (λ n y. row_product A k n μ -ℤ y) all (sym (mean_at_lem s.args.last b k below))
-            ∙ sym (residue_at_lem s.args.last A (mean_of s.args.last b) μ k below);
+            ∙ ap₂ (λ n y. row_product A k n μ -ℤ y) all (sym (mean_at_lem c.args.last b k below))
+            ∙ sym (residue_at_lem c.args.last A (mean_of c.args.last b) μ k below);
       };
     }
-
-pub residues-spec : {M : Type 1} → statement M
-residues-spec =
-    tie.close
-    (tie.spec
-    invariant-loop
-    decreases-loop
-    mul-parts
-    add_parts
-    loop-holds
-    row-times-requires
-    returns
-    mul-found
-    add-found
-    mul-found-2
-    element-copy-out-found
-    mul-found-3
-    element-copy-out-found-2
-    mul-found-4
-    add-found-2
-    mul-found-5
-    element-copy-out-found-3
-    sub-found
-    mul-found-6
-    array-set-from-found
-    add-k
-    loop-less
-    loop-again
-    returns-2)

@@ -12,8 +12,7 @@ use mir.Facts.{to_z-of_z}
 use Rattle.integers.specs.Floor.{floor_div}
 use Rattle.integers.specs.Size.{fits, kept}
 use Rattle.integers.specs.Bits.{stored, Negative, Nonnegative, negative, nonnegative, complement_negative, complement_nonnegative}
-use Rattle.arithmetic.proofs.floor.floor.Statement.{statement}
-use Rattle.arithmetic.proofs.floor.floor.Tie as tie
+use Rattle.arithmetic.proofs.floor.floor.Goals as goal
 
 -- a positive divisor
 
@@ -58,32 +57,26 @@ module _ {x d : ℤ} (x_Fits : SFits w64 x) (d-fits : SFits w64 d) (positive : p
     floor_as_is : stored (quot_z (stored x) (stored d)) ≡ floor_div x (nat_abs d)
     floor_as_is = kept w64 quotient_as_is quotient_as_is_small ∙ ap (λ y. floor_div y (nat_abs d)) (sym n.is)
 
-sub-result : tie.Need-overflow-sub-result
-sub-result c =
-    let s = c.before in
-    let n = negative s.ranges.x c.if1.true in
-    fits (complement s.ranges.x s.ranges.d s.requires n) n.small
+pub overflow_sub-result : goal.overflow_sub-result
+overflow_sub-result c =
+    let n = negative c.ranges.x c.if-x-lt0.true in
+    fits (complement c.ranges.x c.ranges.d c.requires n) n.small
 
-div-result : tie.Need-nonzero-div-result
-div-result c =
-    let s = c.before in
-    let n = negative s.ranges.x c.if1.true in
-    (divisor_bits s.args.d s.requires, fits (quotient s.ranges.x s.ranges.d s.requires n) (quotient_small s.ranges.x s.ranges.d s.requires n))
+pub nonzero_div-result : goal.nonzero_div-result
+nonzero_div-result c =
+    let n = negative c.ranges.x c.if-x-lt0.true in
+    (divisor_bits c.args.d c.requires, fits (quotient c.ranges.x c.ranges.d c.requires n) (quotient_small c.ranges.x c.ranges.d c.requires n))
 
-sub-result-2 : tie.Need-overflow-sub-result-2
-sub-result-2 c = let s = c.before in result_fits s.ranges.x s.ranges.d s.requires (negative s.ranges.x c.if1.true)
+pub overflow_sub-result-then-x-lt0 : goal.overflow_sub-result-then-x-lt0
+overflow_sub-result-then-x-lt0 c = result_fits c.ranges.x c.ranges.d c.requires (negative c.ranges.x c.if-x-lt0.true)
 
-div-result-2 : tie.Need-nonzero-div-result-2
-div-result-2 c =
-    let s = c.before in
-    let n = nonnegative s.ranges.x c.if1.false in
-    (divisor_bits s.args.d s.requires, fits (quotient_as_is s.ranges.x s.ranges.d s.requires n) (quotient_as_is_small s.ranges.x s.ranges.d s.requires n))
+pub nonzero_div-result-else-x-lt0 : goal.nonzero_div-result-else-x-lt0
+nonzero_div-result-else-x-lt0 c =
+    let n = nonnegative c.ranges.x c.if-x-lt0.false in
+    (divisor_bits c.args.d c.requires, fits (quotient_as_is c.ranges.x c.ranges.d c.requires n) (quotient_as_is_small c.ranges.x c.ranges.d c.requires n))
 
-returns : tie.Need-returns
-returns c = let s = c.before in floor_is s.ranges.x s.ranges.d s.requires (negative s.ranges.x c.if1.true)
+pub returns-then-x-lt0 : goal.returns-then-x-lt0
+returns-then-x-lt0 c = floor_is c.ranges.x c.ranges.d c.requires (negative c.ranges.x c.if-x-lt0.true)
 
-returns-2 : tie.Need-returns-2
-returns-2 c = let s = c.before in floor_as_is s.ranges.x s.ranges.d s.requires (nonnegative s.ranges.x c.if1.false)
-
-pub floor-spec : {M : Type 1} → statement M
-floor-spec = tie.close (tie.spec sub-result div-result sub-result-2 div-result-2 returns returns-2)
+pub returns-else-x-lt0 : goal.returns-else-x-lt0
+returns-else-x-lt0 c = floor_as_is c.ranges.x c.ranges.d c.requires (nonnegative c.ranges.x c.if-x-lt0.false)

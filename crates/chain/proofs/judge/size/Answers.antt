@@ -2,7 +2,6 @@
 use Prim.Native.Nat.{◌+◌}
 use mathlib.Core.Path.{◌≡◌, ap, ◌∙◌}
 use native.Mathlib.Omega.{arith}
-use borrow.Author.Rules.{rules}
 use lib.Dec.{T}
 use lib.IntN.{ℤ, pos, negsuc, nat_abs, ◌-ℤ◌}
 use lib.Signed.{non_neg}
@@ -11,8 +10,7 @@ use mir.Val.{Fits, SFits}
 use mir.Facts.{to_z-of_z}
 use Rattle.integers.specs.Size.{fits, kept}
 use Rattle.integers.specs.Bits.{stored, Negative, Nonnegative, negative, nonnegative, complement_negative}
-use Rattle.chain.proofs.judge.size.Statement.{statement}
-use Rattle.chain.proofs.judge.size.Tie as tie
+use Rattle.chain.proofs.judge.size.Goals as goal
 
 module _ (z : ℤ) (f : SFits w64 z) (n : Negative z) where
   complement : negsuc 0 -ℤ stored z ≡ pos n.below
@@ -30,25 +28,19 @@ module _ (z : ℤ) (f : SFits w64 z) (n : Negative z) where
 castable_as_is : (z : ℤ) → SFits w64 z → Nonnegative z → T (non_neg (stored z)) × Fits w64 (nat_abs (stored z))
 castable_as_is z f n = rw (to_z-of_z f, n.is) (tt, record { fits = omega (arith, n.small) })
 
-sub-result : tie.Need-overflow-sub-result
-sub-result c = let n = negative c.before.ranges.z c.if1.true in fits (complement c.before.args.z c.before.ranges.z n) n.small
+pub overflow_sub-result : goal.overflow_sub-result
+overflow_sub-result c = let n = negative c.ranges.z c.if-z-lt0.true in fits (complement c.args.z c.ranges.z n) n.small
 
-cast-result : tie.Need-overflow-cast-result
-cast-result c = castable c.before.args.z c.before.ranges.z (negative c.before.ranges.z c.if1.true)
+pub overflow_cast-result : goal.overflow_cast-result
+overflow_cast-result c = castable c.args.z c.ranges.z (negative c.ranges.z c.if-z-lt0.true)
 
-add-result : tie.Need-overflow-add-result
-add-result c =
-    let n = negative c.before.ranges.z c.if1.true in
-    omega (arith, n.small, ap nat_abs n.is, size_is c.before.args.z c.before.ranges.z n)
+pub overflow_add-result : goal.overflow_add-result
+overflow_add-result c =
+    let n = negative c.ranges.z c.if-z-lt0.true in
+    omega (arith, n.small, ap nat_abs n.is, size_is c.args.z c.ranges.z n)
 
-cast-result-2 : tie.Need-overflow-cast-result-2
-cast-result-2 c = castable_as_is c.before.args.z c.before.ranges.z (nonnegative c.before.ranges.z c.if1.false)
+pub overflow_cast-result-else-z-lt0 : goal.overflow_cast-result-else-z-lt0
+overflow_cast-result-else-z-lt0 c = castable_as_is c.args.z c.ranges.z (nonnegative c.ranges.z c.if-z-lt0.false)
 
-returns : tie.Need-returns
-returns c = size_is c.before.args.z c.before.ranges.z (negative c.before.ranges.z c.if1.true)
-
-returns-2 : tie.Need-returns-2
-returns-2 c = search rules
-
-pub size-spec : {M : Type 1} → statement M
-size-spec = tie.close (tie.spec sub-result cast-result add-result cast-result-2 returns returns-2)
+pub returns-then-z-lt0 : goal.returns-then-z-lt0
+returns-then-z-lt0 c = size_is c.args.z c.ranges.z (negative c.ranges.z c.if-z-lt0.true)

@@ -1,0 +1,6 @@
+-- `next_digit` meets its contract.
+use Rattle.arithmetic.specs.WideLaws.{digit_is}
+use Rattle.arithmetic.proofs.wide.next_digit.Goals as goal
+
+pub returns : goal.returns
+returns c = digit_is c.requires
