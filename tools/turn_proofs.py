@@ -100,7 +100,7 @@ def turn(fn, v):
 
     places = set()
 
-    def paths(s):
+    def paths(s, renames=False):
         notstate = set()
         for m in re.finditer(rf"let ({W})(?: : [^=]*)? = \(?(?:{W}| )*\)?[^=\n ]*?\.(args|loop\d*|requires|ensures|pre|now|invariant|inv|new)\b(?:\.[^\s]+)? in\b", s):
             notstate.add(m[1])
@@ -112,7 +112,8 @@ def turn(fn, v):
                 return m[0]
             places.add(name)
             return name
-        s = re.sub(rf"tie\.({W})(?: (?:invariant|decreases)-loop\d*)*", st, s)
+        if not renames:
+            return re.sub(rf"tie\.({W})(?: (?:invariant|decreases)-loop\d*)*", st, s)
 
         def one(m):
             segs = m[2].split(".")[1:]
@@ -165,6 +166,7 @@ def turn(fn, v):
         return re.sub(rf"({W}|\))((?:\.{W})+)", lambda m: one(m) if not re.match(r"[A-Z]\w*$", m[1]) or True else m[0], s)
 
     inv_blocks, ans_blocks, dropped = [], [], []
+    signed = set()
     inv_text = ""
     for b in rest:
         sig = signature(b)
@@ -195,7 +197,9 @@ def turn(fn, v):
                 print(f"  {src}: bound {h} in {m[2]}")
                 table.pop(h)
             body = sub(body)
-            body = re.sub(r"\(?to_z w64 (l\.(?:initial\.)?[\w.]+)\)?", r"\1", body) if False else re.sub(r"to_z w64 (l\.(?:initial\.)?[\w.]+)", r"\1", body)
+            # a signed variable is a whole number in the invariant, and bits in an answer
+            signed.update(re.findall(r"to_z w64 l\.(?:initial\.)?(\w+)", body))
+            body = re.sub(r"to_z w64 (l\.(?:initial\.)?[\w.]+)", r"\1", body)
             inv_blocks.append("\n".join(comments + [f"abbrev pub {kind}-{new} : goal.{kind}-{new}", f"{kind}-{new} l ={body}"]))
             inv_text += body
             continue
@@ -238,9 +242,6 @@ def turn(fn, v):
                     if k and k[2] in parent:
                         helpers[mm[2]] = k[2]
 
-    # the test of `!x` says x ≡ false, or x ≡ true
-    ans_blocks = [(n, re.sub(rf"\(not_(?:yes|no) ({W}(?:\.{W})*\.if-not-{W}\.(?:true|false))\)", r"\1", b)) for n, b in ans_blocks]
-    ans_blocks = [(n, re.sub(rf"not_(?:yes|no) ({W}(?:\.{W})*\.if-not-{W}\.(?:true|false))", r"\1", b)) for n, b in ans_blocks]
 
     def above(state, wanted):
         n = 0
@@ -322,6 +323,17 @@ def turn(fn, v):
                 mm = re.search(rf"^({W}) : \(({W}) : ({W})\)", b, re.M)
                 if mm and mm[3] in parent:
                     b = viewed(led(b, mm[2], set()), mm[2], mm[3], None)
+        b = paths(b, True)
+        # the test of `!f(x)` says f's result ≡ false, or true
+        calls = "|".join(re.escape(x.replace("-", "_")) for x in steps)
+        for form in (rf"\(not_(?:yes|no) ({W}(?:\.{W})*\.if-not-(?:{calls})\.(?:true|false))\)", rf"not_(?:yes|no) ({W}(?:\.{W})*\.if-not-(?:{calls})\.(?:true|false))"):
+            b = re.sub(form, r"\1", b)
+        if signed:
+            S = "|".join(map(re.escape, signed))
+            names_of_loops = {m[1] for m in re.finditer(rf"let ({W}) = [^\n]*\.loop-{W} in", b)}
+            b = re.sub(rf"(\.loop-[^.\s()]+)\.({S})(?![\w'-])", r"\1.\2-bits", b)
+            for x in names_of_loops:
+                b = re.sub(rf"(?<![\w.'-])({re.escape(x)})\.({S})(?![\w'-])", r"\1.\2-bits", b)
         turned.append((n, b))
     ans_blocks = turned
     # which local blocks do the invariants need

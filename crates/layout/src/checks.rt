@@ -24,7 +24,7 @@ struct Run {
 }
 
 // What a field may be: from `low` to `high`, and where `zero` says so 0 as well.
-#[derive(Drop)]
+#[derive(Clone, Copy)]
 struct Limits {
     low: u64,
     high: u64,

@@ -16,7 +16,7 @@ use Rattle.definitions.specs.Words.{part}
 use Rattle.definitions.specs.Refusals.{part_limit}
 use Rattle.chain.specs.Arrays.{cell, cell_at, row_product}
 use Rattle.integers.specs.Bits.{stored, read, same}
-use Rattle.chain.specs.Decides.{Decides, decided_yes, decided_no, not_yes, not_no}
+use Rattle.chain.specs.Decides.{Decides, decided_yes, decided_no}
 use Rattle.chain.specs.Fitting.{entry_limit}
 use Rattle.chain.specs.Residues.{OfRow}
 use Rattle.chain.specs.Turned.{Turned, turned_none, turned_next, here_or_before}
@@ -107,7 +107,7 @@ decided c =
 
 pub returns-then-not-entry_fits : goal.returns-then-not-entry_fits
 returns-then-not-entry_fits c =
-    let too_large = (decided (goal.at.returns-then-not-entry_fits c).After-entry_fits).when_no (not_yes c.if-not-entry_fits.true) in
+    let too_large = (decided (goal.at.returns-then-not-entry_fits c).After-entry_fits).when_no c.if-not-entry_fits.true in
     record {
       fits = decided_no (λ entries. too_large (entries c.loop-l.l c.loop-l-test.true));
       is = λ e. absurd (false≢true e);
@@ -119,7 +119,7 @@ module _ (c : Else-not-entry_fits) where
   reached : Reached c.args.matrix.now c.args.mean.now c.args.residues.now c.args.k c.loop-l.l
   reached =
       let InBounds : ℕ → Type 0 = λ i. nat_abs (cell c.args.matrix.now c.args.k i) ≤ entry_limit in
-      let here = (decided c.before).when_yes (not_no c.if-not-entry_fits.false) in
+      let here = (decided c.before).when_yes c.if-not-entry_fits.false in
       record {
         asked = c.requires;
         below = c.loop-l-test.true;
@@ -145,7 +145,7 @@ pub overflow_add-sum : goal.overflow_add-sum
 overflow_add-sum c =
     let h = reached (goal.at.overflow_add-sum c).Else-not-entry_fits in
     let now-at = c.loop-l in
-    fits (summed h now-at.sum now-at.invariant.2) (summed_small h now-at.sum now-at.invariant.2)
+    fits (summed h now-at.sum-bits now-at.invariant.2) (summed_small h now-at.sum-bits now-at.invariant.2)
 
 pub offset_bounds-residues-l : goal.offset_bounds-residues-l
 offset_bounds-residues-l c = omega (arith, in_array (goal.at.offset_bounds-residues-l c).Else-not-entry_fits)
@@ -156,10 +156,10 @@ bounds-residues-l c = in_array (goal.at.bounds-residues-l c).Else-not-entry_fits
 -- the residue of part l, which is as it was
 module _ (c : After-residues-1) where
   abbrev x : ℤ
-  x = part (c c).loop-l.residues (c c).loop-l.l
+  x = part c.loop-l.residues c.loop-l.l
 
-  old : x ≡ part (c c).args.residues.now (c c).loop-l.l
-  old = (c c).loop-l.invariant.3.rest (c c).loop-l.l (le_refl (c c).loop-l.l)
+  old : x ≡ part c.args.residues.now c.loop-l.l
+  old = c.loop-l.invariant.3.rest c.loop-l.l (le_refl c.loop-l.l)
 
 pub overflow_mul-residues : goal.overflow_mul-residues
 overflow_mul-residues c =
@@ -189,8 +189,8 @@ loop-l-preserved c =
     let now-at = c.loop-l in (
       omega (arith, h.below),
       h.entries,
-      kept w64 (summed h now-at.sum-1 now-at.inv.2) (summed_small h now-at.sum-1 now-at.inv.2),
-      turned_next now-at.inv.3 (in_array else_not_entry_fits) (kept w64 (mirrored h (x c) (old c)) (mirrored_small h (x c) (old c))),
+      kept w64 (summed h now-at.sum-bits now-at.invariant.2) (summed_small h now-at.sum-bits now-at.invariant.2),
+      turned_next now-at.invariant.3 (in_array else_not_entry_fits) (kept w64 (mirrored h (x c) (old c)) (mirrored_small h (x c) (old c))),
     )
 
 pub returns : goal.returns

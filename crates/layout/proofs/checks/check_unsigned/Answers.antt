@@ -1,0 +1,65 @@
+-- `layout::checks::check_unsigned` meets its contract. The loop's invariant: the fields from k on give what all of them give. The measure is how many
+-- are left. Assumes nothing.
+use Prim.Native.Nat.{◌+◌, ◌-◌, ◌≤◌}
+use mathlib.Core.Path.{◌≡◌, sym, ap, ◌∙◌}
+use native.Mathlib.Omega.{arith}
+use borrow.Author.Tests.{not-true, not-false}
+use lib.ListN.{length}
+use Rattle.definitions.specs.Layout.{unsigned}
+use Rattle.layout.specs.Checks.{allowed, unsigned_run}
+use Rattle.fields.specs.Fields.{field_read, field_outside}
+use Rattle.layout.specs.CheckLaws.{left_start, left_none, left_next, left_bad}
+use Rattle.layout.proofs.checks.check_unsigned.Invariants.{place, good}
+use Rattle.layout.proofs.checks.check_unsigned.Goals as goal
+use Rattle.layout.proofs.checks.check_unsigned.Goals.{After-allows, In-Value, In-loop-k}
+
+pub loop-k-init : goal.loop-k-init
+loop-k-init c =
+    let a = c.args in
+    let r = a.run in
+    left_start (good a.s.now a.limits r.first r.stride) a.number (place r.first r.stride) r.count
+
+inside : (c : In-loop-k)
+    → place c.args.run.first c.args.run.stride c.loop-k.k + 8
+    ≤ length c.args.s.now
+inside c = c.requires c.loop-k.k c.loop-k-test.true
+
+pub overflow_mul-at : goal.overflow_mul-at
+overflow_mul-at c = omega (arith, inside c)
+
+pub overflow_add-at : goal.overflow_add-at
+overflow_add-at c = omega (arith, inside c)
+
+pub returns-in_default : goal.returns-in_default
+returns-in_default c =
+    let a = c.args in
+    let at = place a.run.first a.run.stride c.loop-k.k in
+    absurd (omega (arith, inside (goal.at.returns-in_default c).In-loop-k, field_outside 8 at a.s.now c.unsigned_8.ensures c.in_default.is))
+
+was_read : (c : In-Value)
+    → let a = c.args in
+    c.in-Value.v ≡ unsigned 8 (place a.run.first a.run.stride c.loop-k.k) a.s.now
+was_read c =
+    let a = c.args in
+    let at = place a.run.first a.run.stride c.loop-k.k in
+    field_read 8 at a.s.now c.unsigned_8.ensures c.in-Value.is
+
+decided : (c : After-allows)
+    → let a = c.args in
+    good a.s.now a.limits a.run.first a.run.stride c.loop-k.k ≡ c.allows.result
+decided c =
+    let a = c.args in
+    ap (allowed a.limits) (sym (was_read c.before)) ∙ sym c.allows.ensures
+
+pub returns-then-not-allows : goal.returns-then-not-allows
+unfolding unsigned_run
+returns-then-not-allows c =
+    left_bad c.loop-k.invariant c.loop-k-test.true (decided (goal.at.returns-then-not-allows c).After-allows ∙ not-true _ c.if-not-allows.true)
+
+pub loop-k-preserved : goal.loop-k-preserved
+loop-k-preserved c =
+    left_next c.loop-k.invariant c.loop-k-test.true (decided (goal.at.loop-k-preserved c).After-allows ∙ not-false _ c.if-not-allows.false)
+
+pub returns : goal.returns
+unfolding unsigned_run
+returns c = left_none c.loop-k.invariant c.loop-k-test.false
