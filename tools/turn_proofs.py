@@ -10,7 +10,7 @@ import json, os, re, sys
 W = r"[^\s(){}.;,@\"«»:]+"
 crate, names = sys.argv[1], json.load(open(sys.argv[2]))
 only = sys.argv[3:]
-norm = lambda s: s.replace("_", "-")
+norm = lambda s: s.replace("_", "-").lower()
 TRIVIAL = {"search rules", "omega arith", "tt"}
 STOPS = {"args", "result", "ensures", "requires", "now", "invariant", "new", "initial", "given", "ranges", "auto", "is", "well_formed", "type_inv"}
 
@@ -66,8 +66,7 @@ def turn(fn, v):
     arms = {}
     for arm in v["arms"]:
         for field, step, way in (arm[2] if arm else []):
-            if not field.endswith("-own"):
-                arms[(norm(step), tuple(way))] = [arm[0], field]
+            arms[(norm(step), tuple(way))] = [arm[0], field]
     loops = {}
     for (old_new, variables), changed in zip(v["loops"], v["changed"]):
         loops[norm(old_new[0])] = (old_new[1], variables, changed)
@@ -128,7 +127,7 @@ def turn(fn, v):
                     segs = segs[k:]
                     if not segs[0] == "before" and root == ")":
                         pass
-                    for n in (3, 2, 1):
+                    for n in (3, 2, 1, 0):
                         found = arms.get((norm(segs[0]), tuple(segs[1 : 1 + n])))
                         if found:
                             return root + "".join("." + o for o in found + segs[1 + n :])
@@ -167,6 +166,7 @@ def turn(fn, v):
 
     inv_blocks, ans_blocks, dropped = [], [], []
     signed = set()
+    spare, wanted_spares = {}, set()
     inv_text = ""
     for b in rest:
         sig = signature(b)
@@ -221,6 +221,7 @@ def turn(fn, v):
             params = [p for p in h.split()[1:] if p != "κs"]
             if body.strip() in TRIVIAL and not pre:
                 dropped.append(f"{new} (auto)")
+                spare[new] = f"pub {new} : goal.{new}\n{new} {' '.join(params)} ={body}"
                 continue
             body = paths(body)
             ans_blocks.append((new, "\n".join(comments + [f"pub {new} : goal.{new}"] + pre + [f"{new} {' '.join(params)} ={body}"])))
@@ -300,6 +301,13 @@ def turn(fn, v):
                 return m[0]
             if goal_name:
                 return f"{m[1]} {word(st)}" if st in many else f"{m[1]} (goal.at.{goal_name} {var}).{st}"
+            answered = {k for k, _ in ans_blocks if k}
+            there = [g for g, at in asked.items() if at == state and g in answered]
+            if not there:
+                there = [g for g, at in asked.items() if at == state and g in spare][:1]
+                wanted_spares.update(there)
+            if there:
+                return f"{m[1]} (goal.at.{there[0]} {var}).{st}"
             n = above(state, st)
             return m[0] if n is None else f"{m[1]} {var}{'.before' * n}"
         b = re.sub(rf"(?<![\w.'-])({H}) {re.escape(var)}(?![\w.'-])", fit, b)
@@ -335,7 +343,18 @@ def turn(fn, v):
             for x in names_of_loops:
                 b = re.sub(rf"(?<![\w.'-])({re.escape(x)})\.({S})(?![\w'-])", r"\1.\2-bits", b)
         turned.append((n, b))
-    ans_blocks = turned
+    ans_blocks = turned + []
+    for g in sorted(wanted_spares):
+        first = next(i for i, (k, b) in enumerate(ans_blocks) if f"goal.at.{g} " in b)
+        ans_blocks.insert(first, (g, spare[g]))
+    every = set(re.findall(W, "\n".join(b for _, b in ans_blocks) + "\n".join(inv_blocks) + "\n".join(uses)))
+    respell = {x: x.replace("-", "_") for x in helpers.keys() | local if "-" in x and re.fullmatch(r"[\w'-]+", x) and x.replace("-", "_") not in every and x not in needs.values()}
+    if respell:
+        form = rf"(?<![\w.'-])({'|'.join(sorted(map(re.escape, respell), key=len, reverse=True))})(?![\w'-])"
+        ans_blocks = [(n, re.sub(form, lambda m: respell[m[1]], b)) for n, b in ans_blocks]
+        local = {respell.get(x, x) for x in local}
+        inv_blocks = [re.sub(form, lambda m: respell[m[1]], b) for b in inv_blocks]
+        inv_text = re.sub(form, lambda m: respell[m[1]], inv_text)
     # which local blocks do the invariants need
     moved = []
     if inv_blocks:

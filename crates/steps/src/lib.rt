@@ -6,7 +6,7 @@ pub mod step;
 pub mod sweep;
 
 // A mean, and the residues that it has.
-#[derive(Drop)]
+#[derive(Clone, Copy)]
 pub struct Working {
     pub mean: [i64; 31],
     pub residues: [i64; 31],

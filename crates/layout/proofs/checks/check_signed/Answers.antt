@@ -48,7 +48,7 @@ was_read c =
     signed_read at a.s.now c.signed_4.ensures c.in-Value.is
 
 held : (c : In-Value) → to_z w64 (of_z w64 c.in-Value.z) ≡ c.in-Value.z
-held c = to_z-of_z (record { sfits = c.known_told-1.given.0.1 })
+held c = to_z-of_z {w = w64} {z = c.in-Value.z} (record { sfits = c.in-Value.known_told-1-own.given.0.1 })
 
 pub returns-then-z-ltminus67108864 : goal.returns-then-z-ltminus67108864
 unfolding signed_run

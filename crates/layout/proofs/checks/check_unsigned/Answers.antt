@@ -1,9 +1,9 @@
 -- `layout::checks::check_unsigned` meets its contract. The loop's invariant: the fields from k on give what all of them give. The measure is how many
 -- are left. Assumes nothing.
 use Prim.Native.Nat.{◌+◌, ◌-◌, ◌≤◌}
+use mathlib.Core.Bool.{Bool}
 use mathlib.Core.Path.{◌≡◌, sym, ap, ◌∙◌}
 use native.Mathlib.Omega.{arith}
-use borrow.Author.Tests.{not-true, not-false}
 use lib.ListN.{length}
 use Rattle.definitions.specs.Layout.{unsigned}
 use Rattle.layout.specs.Checks.{allowed, unsigned_run}
@@ -11,7 +11,7 @@ use Rattle.fields.specs.Fields.{field_read, field_outside}
 use Rattle.layout.specs.CheckLaws.{left_start, left_none, left_next, left_bad}
 use Rattle.layout.proofs.checks.check_unsigned.Invariants.{place, good}
 use Rattle.layout.proofs.checks.check_unsigned.Goals as goal
-use Rattle.layout.proofs.checks.check_unsigned.Goals.{After-allows, In-Value, In-loop-k}
+use Rattle.layout.proofs.checks.check_unsigned.Goals.{In-Value, In-loop-k}
 
 pub loop-k-init : goal.loop-k-init
 loop-k-init c =
@@ -44,21 +44,19 @@ was_read c =
     let at = place a.run.first a.run.stride c.loop-k.k in
     field_read 8 at a.s.now c.unsigned_8.ensures c.in-Value.is
 
-decided : (c : After-allows)
-    → let a = c.args in
-    good a.s.now a.limits a.run.first a.run.stride c.loop-k.k ≡ c.allows.result
-decided c =
-    let a = c.args in
-    ap (allowed a.limits) (sym (was_read c.before)) ∙ sym c.allows.ensures
+-- what `allows` answers of it
+decided : (c : In-Value) (r : Bool) → r ≡ allowed c.args.limits c.in-Value.v
+    → good c.args.s.now c.args.limits c.args.run.first c.args.run.stride c.loop-k.k ≡ r
+decided c r is = ap (allowed c.args.limits) (sym (was_read c)) ∙ sym is
 
 pub returns-then-not-allows : goal.returns-then-not-allows
 unfolding unsigned_run
 returns-then-not-allows c =
-    left_bad c.loop-k.invariant c.loop-k-test.true (decided (goal.at.returns-then-not-allows c).After-allows ∙ not-true _ c.if-not-allows.true)
+    left_bad c.loop-k.invariant c.loop-k-test.true (decided (goal.at.returns-then-not-allows c).In-Value c.allows.result c.allows.ensures ∙ c.if-not-allows.true)
 
 pub loop-k-preserved : goal.loop-k-preserved
 loop-k-preserved c =
-    left_next c.loop-k.invariant c.loop-k-test.true (decided (goal.at.loop-k-preserved c).After-allows ∙ not-false _ c.if-not-allows.false)
+    left_next c.loop-k.invariant c.loop-k-test.true (decided (goal.at.loop-k-preserved c).In-Value c.allows.result c.allows.ensures ∙ c.if-not-allows.false)
 
 pub returns : goal.returns
 unfolding unsigned_run

@@ -13,7 +13,7 @@ use Rattle.layout.specs.Places.{amount_inside}
 use Rattle.fields.specs.Fields.{field_read, field_outside}
 use Rattle.layout.specs.CheckLaws.{unless_holds, unless_fails}
 use Rattle.layout.proofs.checks.file.check_10.Goals as goal
-use Rattle.layout.proofs.checks.file.check_10.Goals.{After-cells_of, In-Value-unsigned_8}
+use Rattle.layout.proofs.checks.file.check_10.Goals.{After-cells_of}
 
 -- the last cell of year 0, in each block
 paid_inside : (s : Bytes) → Whole s → paid_at (last_year s) 0 (last_year s) + 8 ≤ length s
@@ -31,7 +31,7 @@ module _ (c : After-cells_of) where
   paid_found = c.amounts_at.result + 8 * c.last_year-last.result
 
   abbrev incurred_found : ℕ
-  incurred_found = paid_found + 8 * c.Cells-of.result
+  incurred_found = paid_found + 8 * c.cells_of.result
 
   abbrev is_whole : Whole file
   is_whole = c.requires
@@ -42,22 +42,8 @@ paid-place c = omega (arith, row_start_is (last_year (file c)) 0 zero-le)
 incurred-place : (c : After-cells_of) → let J = last_year (file c) in incurred_found c ≡ incurred_at J 0 J
 incurred-place c =
     let J = last_year (file c) in
-    let all : c.Cells-of.result ≡ cells J = c.Cells-of.ensures ∙ ap cells c.last_year-last.ensures in
+    let all : c.cells_of.result ≡ cells J = c.cells_of.ensures ∙ ap cells c.last_year-last.ensures in
     omega (arith, row_start_is J 0 zero-le)
-
-paid-read : (c : In-Value-unsigned_8)
-    → let s = file c.before.before.before.before.before.before.before.before in
-    c.in-Value.paid ≡ paid s 0 (last_year s)
-paid-read c =
-    field_read 8 (paid_found c.before.before.before.before.before.before.before.before) (file c.before.before.before.before.before.before.before.before) c.unsigned_8.ensures c.in-Value.is
-    ∙ ap (λ at. unsigned 8 at (file c.before.before.before.before.before.before.before.before)) (paid-place c.before.before.before.before.before.before.before.before)
-
-incurred-read : (c : In-Value-unsigned_8)
-    → let s = file c.before.before.before.before.before.before.before.before in
-    c.in-Value-unsigned_8.incurred ≡ incurred s 0 (last_year s)
-incurred-read c =
-    field_read 8 (incurred_found c.before.before.before.before.before.before.before.before) (file c.before.before.before.before.before.before.before.before) c.unsigned_8-2.ensures c.in-Value-unsigned_8.is
-    ∙ ap (λ at. unsigned 8 at (file c.before.before.before.before.before.before.before.before)) (incurred-place c.before.before.before.before.before.before.before.before)
 
 pub overflow_mul-incurred_at : goal.overflow_mul-incurred_at
 overflow_mul-incurred_at c = omega (arith, incurred-place c, incurred_inside (file c) (is_whole c))
@@ -80,18 +66,23 @@ returns-in_default-unsigned_8 c =
 pub returns-then-paid-incurred : goal.returns-then-paid-incurred
 unfolding check10
 returns-then-paid-incurred c =
-    let after_cells_of = (goal.at.returns-then-paid-incurred c).After-cells_of in
-    let in_value_unsigned_8 = (goal.at.returns-then-paid-incurred c).In-Value-unsigned_8 in
-    let s = file after_cells_of in
+    let d = (goal.at.returns-then-paid-incurred c).After-cells_of in
+    let s = file d in
     let J = last_year s in
-    ap (refuses 10) (paid-place after_cells_of)
+    let paid-read = field_read 8 (paid_found d) s c.unsigned_8.ensures c.in-Value.is ∙ ap (λ at. unsigned 8 at s) (paid-place d) in
+    let incurred-read =
+        field_read 8 (incurred_found d) s c.unsigned_8-2.ensures c.in-Value-unsigned_8.is ∙ ap (λ at. unsigned 8 at s) (incurred-place d) in
+    ap (refuses 10) (paid-place d)
     ∙ unless_fails 10 (paid_at J 0 J)
-    (ne_eqb (paid s 0 J) (incurred s 0 J) (λ h. c.if-paid-incurred.true (paid-read in_value_unsigned_8 ∙ h ∙ sym (incurred-read in_value_unsigned_8))))
+    (ne_eqb (paid s 0 J) (incurred s 0 J) (λ h. c.if-paid-incurred.true (paid-read ∙ h ∙ sym incurred-read)))
 
 pub returns : goal.returns
 unfolding check10
 returns c =
-    let in_value_unsigned_8 = (goal.at.returns c).In-Value-unsigned_8 in
-    let s = file (goal.at.returns c).After-cells_of in
+    let d = (goal.at.returns c).After-cells_of in
+    let s = file d in
     let J = last_year s in
-    unless_holds 10 (paid_at J 0 J) (eq-eqb (paid s 0 J) (incurred s 0 J) (sym (paid-read in_value_unsigned_8) ∙ c.if-paid-incurred.false ∙ incurred-read in_value_unsigned_8))
+    let paid-read = field_read 8 (paid_found d) s c.unsigned_8.ensures c.in-Value.is ∙ ap (λ at. unsigned 8 at s) (paid-place d) in
+    let incurred-read =
+        field_read 8 (incurred_found d) s c.unsigned_8-2.ensures c.in-Value-unsigned_8.is ∙ ap (λ at. unsigned 8 at s) (incurred-place d) in
+    unless_holds 10 (paid_at J 0 J) (eq-eqb (paid s 0 J) (incurred s 0 J) (sym paid-read ∙ c.if-paid-incurred.false ∙ incurred-read))

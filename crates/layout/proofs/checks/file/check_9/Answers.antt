@@ -11,8 +11,8 @@ use Rattle.layout.specs.CheckLaws.{unsigned_run_lem}
 use Rattle.layout.proofs.checks.file.check_9.Goals as goal
 use Rattle.layout.proofs.checks.file.check_9.Goals.{After-cells_of}
 
-all : (c : After-cells_of) → c.Cells-of.result ≡ cells (last_year c.args.s.now)
-all c = c.Cells-of.ensures ∙ ap cells c.last_year-last.ensures
+all : (c : After-cells_of) → c.cells_of.result ≡ cells (last_year c.args.s.now)
+all c = c.cells_of.ensures ∙ ap cells c.last_year-last.ensures
 
 pub overflow_mul-run : goal.overflow_mul-run
 overflow_mul-run c = omega (arith, all c, blocks_end (last_year c.args.s.now), c.requires.whole)

@@ -4,6 +4,7 @@ use mathlib.Core.Path.{◌≡◌}
 use Rattle.definitions.specs.Layout.{Bytes}
 use Rattle.definitions.specs.Refusals.{clear, check6, check7, check8, check9}
 use Rattle.layout.specs.CheckLaws.{passed, stopped}
+use borrow.Author.Rules.{rules}
 use Rattle.layout.proofs.checks.file.check_figures.Goals as goal
 use Rattle.layout.proofs.checks.file.check_figures.Goals.{In-Clear, In-Clear-amounts, In-Clear-prior_means, In-Clear-prior_variances}
 
@@ -13,13 +14,22 @@ file c = c.args.s.now
 clear-6 : (c : In-Clear) → check6 (file c) ≡ clear
 clear-6 c = passed c.check_6-variances.ensures c.in-Clear.is
 
-clear-7 : (c : In-Clear-prior_variances) → check7 (file c.before.before.before) ≡ clear
+pub check_8-prior_means-requires : goal.check_8-prior_means-requires
+check_8-prior_means-requires c = search rules
+
+clear-7 : (c : In-Clear-prior_variances) → check7 (file (goal.at.check_8-prior_means-requires c).In-Clear) ≡ clear
 clear-7 c = passed c.check_7-prior_variances.ensures c.in-Clear-prior_variances.is
 
-clear-8 : (c : In-Clear-prior_means) → check8 (file c.before.before.before.before.before.before) ≡ clear
+pub check_9-amounts-requires : goal.check_9-amounts-requires
+check_9-amounts-requires c = search rules
+
+clear-8 : (c : In-Clear-prior_means) → check8 (file (goal.at.check_9-amounts-requires c).In-Clear) ≡ clear
 clear-8 c = passed c.check_8-prior_means.ensures c.in-Clear-prior_means.is
 
-clear-9 : (c : In-Clear-amounts) → check9 (file c.before.before.before.before.before.before.before.before.before) ≡ clear
+pub check_10-requires : goal.check_10-requires
+check_10-requires c = search rules
+
+clear-9 : (c : In-Clear-amounts) → check9 (file (goal.at.check_10-requires c).In-Clear) ≡ clear
 clear-9 c = passed c.check_9-amounts.ensures c.in-Clear-amounts.is
 
 pub returns-in_default : goal.returns-in_default

@@ -4,6 +4,7 @@ use mathlib.Core.Path.{◌≡◌}
 use Rattle.definitions.specs.Layout.{Bytes}
 use Rattle.definitions.specs.Refusals.{clear, check2, check3, check4, check5}
 use Rattle.layout.specs.CheckLaws.{passed, stopped, whole}
+use borrow.Author.Rules.{rules}
 use Rattle.layout.proofs.checks.file.check_header.Goals as goal
 use Rattle.layout.proofs.checks.file.check_header.Goals.{In-Clear, In-Clear-closeness, In-Clear-length, In-Clear-year}
 
@@ -13,13 +14,19 @@ file c = c.args.s.now
 clear-2 : (c : In-Clear) → check2 (file c) ≡ clear
 clear-2 c = passed c.check_2-version.ensures c.in-Clear.is
 
-clear-3 : (c : In-Clear-year) → check3 (file c.before.before.before) ≡ clear
+pub check_4-length-requires : goal.check_4-length-requires
+check_4-length-requires c = search rules
+
+clear-3 : (c : In-Clear-year) → check3 (file (goal.at.check_4-length-requires c).In-Clear) ≡ clear
 clear-3 c = passed c.check_3-year.ensures c.in-Clear-year.is
 
-clear-4 : (c : In-Clear-length) → check4 (file c.before.before.before.before.before.before) ≡ clear
+pub check_5-closeness-requires : goal.check_5-closeness-requires
+check_5-closeness-requires c = search rules
+
+clear-4 : (c : In-Clear-length) → check4 (file (goal.at.check_5-closeness-requires c).In-Clear) ≡ clear
 clear-4 c = passed c.check_4-length.ensures c.in-Clear-length.is
 
-clear-5 : (c : In-Clear-closeness) → check5 (file c.before.before.before.before.before.before.before.before.before) ≡ clear
+clear-5 : (c : In-Clear-closeness) → check5 (file (goal.at.check_figures-requires c).In-Clear) ≡ clear
 clear-5 c = passed c.check_5-closeness.ensures c.in-Clear-closeness.is
 
 pub returns-in_default : goal.returns-in_default

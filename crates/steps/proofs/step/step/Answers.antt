@@ -24,8 +24,8 @@ use Rattle.steps.specs.Held.{moved, stepped, dividend}
 use Rattle.steps.specs.Step.{Steps}
 use Rattle.steps.specs.StepSizes.{index_below, parts_below, diagonal_small, diagonal_positive, residue_small, half_small, dividend_small, quotient_small}
 use Rattle.steps.specs.StepSizes.{moved_small, fresh_small, change_small, follows, done}
-use Rattle.steps.proofs.step.step.Statement.{statement}
-use Rattle.steps.proofs.step.step.Tie as tie
+use Rattle.steps.proofs.step.step.Goals as goal
+use Rattle.steps.proofs.step.step.Goals.{After-brought_back-fresh}
 
 module _ {last : ℕ} {A : List ℤ} {w : Working} {k : ℕ} (h : Steps last A w k) where
   diagonal : stored (part A (31 * k + k)) ≡ cell A k k
@@ -81,101 +81,71 @@ module _ {last : ℕ} {A : List ℤ} {w : Working} {k : ℕ} (h : Steps last A w
       change_kept = kept w64 change (omega (arith, change_small h))
 
 -- the mean's array has 31 numbers
-mean-long : (c : tie.After-brought-back)
-    → let a = c.before.before.before.before.before.args in
+mean_long : (c : After-brought_back-fresh)
+    → let a = c.args in
     parts a.last ≤ length a.working.mean
-mean-long c =
-    let s = c.before.before.before.before.before in
-    let long : length s.args.working.mean ≡ 31 = search rules in
-    omega (arith, parts_below s.requires)
+mean_long c =
+    let long : length c.args.working.mean ≡ 31 = search rules in
+    omega (arith, parts_below c.requires)
 
-mul-diagonal : tie.Need-overflow-mul-diagonal
-mul-diagonal c = omega (arith, index_below c.requires)
+pub overflow_mul-diagonal : goal.overflow_mul-diagonal
+overflow_mul-diagonal c = omega (arith, index_below c.requires)
 
-add-diagonal : tie.Need-overflow-add-diagonal
-add-diagonal c = omega (arith, index_below c.requires)
+pub overflow_add-diagonal : goal.overflow_add-diagonal
+overflow_add-diagonal c = omega (arith, index_below c.requires)
 
-mul-diagonal-2 : tie.Need-overflow-mul-diagonal-2
-mul-diagonal-2 c = omega (arith, index_below c.requires)
+pub offset_bounds-matrix-k : goal.offset_bounds-matrix-k
+offset_bounds-matrix-k c = omega (arith, index_below c.requires)
 
-element-copy-out-diagonal : tie.Need-element-copy-out-diagonal
-element-copy-out-diagonal c = omega (arith, index_below c.requires)
+pub bounds-matrix-k : goal.bounds-matrix-k
+bounds-matrix-k c = omega (arith, index_below c.requires)
 
-mul-old : tie.Need-overflow-mul-old
-mul-old c = omega (arith, index_below c.before.requires)
+pub offset_bounds-after-k : goal.offset_bounds-after-k
+offset_bounds-after-k c = omega (arith, index_below c.requires)
 
-element-copy-out-old : tie.Need-element-copy-out-old
-element-copy-out-old c = omega (arith, index_below c.before.requires)
+pub bounds-after-k : goal.bounds-after-k
+bounds-after-k c = omega (arith, index_below c.requires)
 
-div-floor : tie.Need-nonzero-div-floor
-div-floor c = let h = c.before.before.requires in (omega arith, fits (half h) (half_fits h))
+pub nonzero_div-diagonal : goal.nonzero_div-diagonal
+nonzero_div-diagonal c = let h = c.requires in (omega arith, fits (half h) (half_fits h))
 
-mul-floor : tie.Need-overflow-mul-floor
-mul-floor c = omega (arith, index_below c.before.before.requires)
+pub offset_bounds-after-k-2 : goal.offset_bounds-after-k-2
+offset_bounds-after-k-2 c = omega (arith, index_below c.requires)
 
-element-copy-out-floor : tie.Need-element-copy-out-floor
-element-copy-out-floor c = omega (arith, index_below c.before.before.requires)
+pub bounds-after-k-2 : goal.bounds-after-k-2
+bounds-after-k-2 c = omega (arith, index_below c.requires)
 
-sub-floor : tie.Need-overflow-sub-floor
-sub-floor c = let h = c.before.before.before.requires in fits (dividend_is h) (omega (arith, dividend_small h))
+pub overflow_sub-diagonal : goal.overflow_sub-diagonal
+overflow_sub-diagonal c = let h = c.requires in fits (dividend_is h) (omega (arith, dividend_small h))
 
-floor-requires : tie.Need-floor-requires
-floor-requires c κs = divisor_positive c.before.before.before.requires
+pub floor-requires : goal.floor-requires
+floor-requires c = divisor_positive c.requires
 
-add-brought-back : tie.Need-overflow-add-brought-back
-add-brought-back c = let h = c.before.before.before.before.requires in fits (sum h c.floor.result c.floor.ensures) (moved_small h)
+pub overflow_add-old : goal.overflow_add-old
+overflow_add-old c = let h = c.requires in fits (sum h c.floor.result c.floor.ensures) (moved_small h)
 
-brought-back-requires : tie.Need-brought-back-requires
-brought-back-requires c κs = search rules
+pub offset_bounds-after-k-3 : goal.offset_bounds-after-k-3
+offset_bounds-after-k-3 c = omega (arith, index_below c.requires)
 
-mul-fresh : tie.Need-overflow-mul-fresh
-mul-fresh c = omega (arith, index_below c.before.before.before.before.before.requires)
+pub bounds-after-k-3 : goal.bounds-after-k-3
+bounds-after-k-3 c = omega (arith, index_below c.requires)
 
-element-set-from-fresh : tie.Need-element-set-from-fresh
-element-set-from-fresh c = omega (arith, index_below c.before.before.before.before.before.requires)
-
-sub-follow : tie.Need-overflow-sub-follow
-sub-follow c =
-    let b = c.before in
-    let h = b.before.before.before.before.before.requires in
-    let changed = change h b.before.floor.result b.before.floor.ensures b.brought-back.result b.brought-back.ensures in
+pub overflow_sub-fresh : goal.overflow_sub-fresh
+overflow_sub-fresh c =
+    let h = c.requires in
+    let changed = change h c.floor.result c.floor.ensures c.brought_back-fresh.result c.brought_back-fresh.ensures in
     fits changed (omega (arith, change_small h))
 
-follow-requires : tie.Need-follow-requires
-follow-requires c κs =
-    let b = c.before in
-    let h = b.before.before.before.before.before.requires in
-    let changed = change_kept h b.before.floor.result b.before.floor.ensures b.brought-back.result b.brought-back.ensures in
-    follows h (mean-long b) (search rules) changed
+pub follow-requires : goal.follow-requires
+follow-requires c =
+    let h = c.requires in
+    let changed = change_kept h c.floor.result c.floor.ensures c.brought_back-fresh.result c.brought_back-fresh.ensures in
+    follows h (mean_long (goal.at.follow-requires c).After-brought_back-fresh) (search rules) changed
 
-returns : tie.Need-returns
+pub returns : goal.returns
 returns c =
-    let b = c.before.before in
-    let h = b.before.before.before.before.before.requires in
-    done h (mean-long b)
-    (fresh_kept h b.before.floor.result b.before.floor.ensures b.brought-back.result b.brought-back.ensures)
-    (change_kept h b.before.floor.result b.before.floor.ensures b.brought-back.result b.brought-back.ensures)
+    let h = c.requires in
+    done h (mean_long (goal.at.returns c).After-brought_back-fresh)
+    (fresh_kept h c.floor.result c.floor.ensures c.brought_back-fresh.result c.brought_back-fresh.ensures)
+    (change_kept h c.floor.result c.floor.ensures c.brought_back-fresh.result c.brought_back-fresh.ensures)
     _ c.follow.ensures
-
-pub step_spec : {M : Type 1} → statement M
-step_spec =
-    tie.close
-    (tie.spec
-    mul-diagonal
-    add-diagonal
-    mul-diagonal-2
-    element-copy-out-diagonal
-    mul-old
-    element-copy-out-old
-    div-floor
-    mul-floor
-    element-copy-out-floor
-    sub-floor
-    floor-requires
-    add-brought-back
-    brought-back-requires
-    mul-fresh
-    element-set-from-fresh
-    sub-follow
-    follow-requires
-    returns)

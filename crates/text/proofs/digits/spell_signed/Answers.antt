@@ -1,0 +1,49 @@
+-- A sign where the number is below 0, and the digits of its size.
+use Prim.Native.Nat.{suc, ◌-◌, ◌≤◌}
+use mathlib.Core.Path.{sym, ap, subst, ◌∙◌}
+use native.Mathlib.Omega.{arith}
+use lib.IntN.{nat_abs}
+use lib.ListN.{set}
+use mir.Facts.{to_z-of_z}
+use Rattle.integers.specs.Bits.{Negative, negative, nonnegative}
+use Rattle.definitions.specs.Text.{minus, decimal, signed_decimal}
+use Rattle.text.specs.Digits.{Spelt, signed_spelt, room_for_sign, spelt_length}
+use Rattle.text.specs.declared.digits.Digits.{Digits}
+use Rattle.text.proofs.digits.spell_signed.Goals as goal
+use Rattle.text.proofs.digits.spell_signed.Goals.{After-struct_known-1}
+
+-- below 0 the size is spelt, which leaves room for a sign
+module _ (c : After-struct_known-1) where
+  abbrev spelt : Digits
+  spelt = c.spell-spelt.result
+
+  below : Negative c.args.z
+  below = negative c.ranges.z c.if-z-lt0.true
+
+  digits : Spelt (decimal (suc below.below)) spelt
+  digits =
+      let size = c.size.ensures ∙ ap nat_abs (to_z-of_z c.ranges.z ∙ below.is) in
+      subst (λ n. Spelt (decimal n) spelt) size c.spell-spelt.ensures
+
+  room : 1 ≤ spelt.from
+  room = room_for_sign (suc below.below) (omega (arith, below.small)) digits
+
+pub overflow_sub-at : goal.overflow_sub-at
+overflow_sub-at c = room c
+
+pub bounds-bytes-at : goal.bounds-bytes-at
+bounds-bytes-at c = omega (arith, spelt_length (digits c), (digits c).from, room c)
+
+pub returns-then-z-lt0 : goal.returns-then-z-lt0
+unfolding signed_decimal
+returns-then-z-lt0 c =
+    subst (λ t. Spelt t (record { bytes = set (spelt c).bytes-1 ((spelt c).from - 1) minus; from = (spelt c).from - 1 }))
+    (sym (ap signed_decimal (below c).is))
+    (signed_spelt (spelt c).bytes-1 (spelt c).from (digits c) (room c))
+
+pub returns : goal.returns
+unfolding signed_decimal
+returns c =
+    let above = nonnegative c.ranges.z c.if-z-lt0.false in
+    let size = c.size.ensures ∙ ap nat_abs (to_z-of_z c.ranges.z ∙ above.is) in
+    subst (λ t. Spelt t c.spell-spelt.result) (ap decimal size ∙ sym (ap signed_decimal above.is)) c.spell-spelt.ensures
