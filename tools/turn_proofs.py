@@ -40,6 +40,17 @@ def signature(block):
     return (m[2], m[1]) if m else None
 
 
+def mutable(callee):
+    """The names of a function's `&mut` parameters."""
+    parts = callee.split("::")
+    for folder, _, found in os.walk(f"crates/{parts[0]}/src"):
+        for file in found:
+            m = re.search(rf"\bfn {parts[-1]}(?:<[^>(]*>)?\(([^)]*)\)", open(f"{folder}/{file}", encoding="utf8").read())
+            if m:
+                return re.findall(r"(\w+): &(?:'\w+ )?mut ", m[1])
+    return []
+
+
 def turn(fn, v):
     path = fn.replace(".", "/")
     folder = f"crates/{crate}/proofs/{path}"
@@ -332,6 +343,11 @@ def turn(fn, v):
                 if mm and mm[3] in parent:
                     b = viewed(led(b, mm[2], set()), mm[2], mm[3], None)
         b = paths(b, True)
+        # what a `&mut` argument holds afterwards goes by its name
+        for (old, up, step, callee, *_), new in zip(v["places"], v["places_by_name"]):
+            if callee and step and step[0]:
+                muts = mutable(callee)
+                b = re.sub(rf"\.{re.escape(step[1])}\.new((?:\.1)*)\.0(?![\w.]*\.1)", lambda m: f".{step[1]}.new.{muts[len(m[1]) // 2]}" if len(m[1]) // 2 < len(muts) else m[0], b)
         # the test of `!f(x)` says f's result ≡ false, or true
         calls = "|".join(re.escape(x.replace("-", "_")) for x in steps)
         for form in (rf"\(not_(?:yes|no) ({W}(?:\.{W})*\.if-not-(?:{calls})\.(?:true|false))\)", rf"not_(?:yes|no) ({W}(?:\.{W})*\.if-not-(?:{calls})\.(?:true|false))"):
@@ -358,7 +374,7 @@ def turn(fn, v):
     # which local blocks do the invariants need
     moved = []
     if inv_blocks:
-        need = set(re.findall(W, inv_text)) & local
+        need = set(re.findall(rf"(?<![\w.'-]){W}", inv_text)) & local
         keep = []
         again = True
         take = set()
@@ -370,7 +386,7 @@ def turn(fn, v):
                     for l in b.split("\n"):
                         mm = re.match(rf"^\s*(?:(?:pub|abbrev|unfoldable|record|data) )*({W})(?: [^:]*)? :(?= |$)", l)
                         if mm: decl.add(mm[1])
-                    if decl & need:
+                    if decl & need and not any(re.search(rf"(?<![\w.'-]){re.escape(q)}(?![\w'-])", b) for q in places):
                         take.add(i); again = True
                         need |= set(re.findall(W, b)) & local
         for i, (n, b) in enumerate(ans_blocks):
