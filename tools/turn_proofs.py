@@ -129,6 +129,8 @@ def turn(fn, v):
             segs = m[2].split(".")[1:]
             root = m[1]
             outs = []
+            if root == "goal" or re.match(r"[A-Z]\w*[a-z]\w*$", root):
+                return m[0]
             segs = [x[:-4] if x.endswith("_lem") and norm(x[:-4]) in steps else x for x in segs]
             k = 0
             while k < len(segs) and segs[k] == "before":
@@ -161,7 +163,11 @@ def turn(fn, v):
                         state = False
                 else:
                     prev = segs[i - 1] if i else ""
-                    if seg == "type-inv":
+                    if seg == "taken" and re.match(r"(if\d*|loop\d*-test)$", prev):
+                        new = "true"
+                    elif seg == "ok" and norm(prev) in steps:
+                        new = "type_inv"
+                    elif seg == "type-inv":
                         new = "type_inv"
                     elif seg == "inv":
                         new = "invariant"
@@ -262,7 +268,7 @@ def turn(fn, v):
         return n if state else None
 
     # functions that lead from a place to an earlier one: every field of that one can be named from the later one
-    leads = set()
+    leads, extra = set(), {}
     cleaned = []
     for n, b in ans_blocks:
         if n is None:
@@ -271,9 +277,12 @@ def turn(fn, v):
                 leads.add(m1[1])
                 helpers.pop(m1[1], None)
                 continue
+            head = re.match(rf"(?:--.*\n)*module _ \(({W}) : ({W})\)((?: \([^)]*\))*) where", b)
+            more = sum(len(g.split(":")[0].split()) for g in re.findall(r"\(([^)]*)\)", head[3])) if head else 0
             for m1 in re.finditer(rf"^  abbrev ({W}) : ({W})\n  ({W}) = [^\n]*\n(?:\n|$)", b + "\n", re.M):
                 if m1[2] in parent and m1[1] == m1[3]:
                     leads.add(m1[1])
+                    extra[m1[1]] = more
                     helpers.pop(m1[1], None)
             b = re.sub(rf"^  abbrev ({W}) : ({W})\n  ({W}) = [^\n]*\n(?:\n|$)", lambda m: "" if m[2] in parent and m[1] == m[3] else m[0], b + "\n", flags=re.M).rstrip("\n")
         cleaned.append((n, b))
@@ -288,11 +297,13 @@ def turn(fn, v):
             b = re.sub(rf"(?<![\w.'-])({V})(?:\.before)+(?![\w-])", var, b)
             b = re.sub(rf"\({V} {V}\)", var, b)
             if leads:
-                L = "|".join(sorted(map(re.escape, leads), key=len, reverse=True))
-                b = re.sub(rf"\((?:{L}) {V}\)(?:\.before)*", var, b)
+                for lead in leads:
+                    b = re.sub(rf"\({re.escape(lead)} {V}(?: (?:{W}|\[\])){{{extra.get(lead, 0)}}}\)(?:\.before)*", var, b)
                 if own_leads:
                     b = re.sub(rf"(?<![\w.'-])(?:{'|'.join(sorted(map(re.escape, own_leads), key=len, reverse=True))})(?:\.before)*(?![\w'-])(?! :)", var, b)
-            m = re.search(rf"let ({W}) = (?:{V}|(?:{'|'.join(sorted(map(re.escape, leads), key=len, reverse=True)) or '§'}) {V}) in(?: |\n +)", b)
+            more = r"(?: (?:" + W + r"|\[\]))"
+            others = "|".join(re.escape(x) + " " + V + more + "{" + str(extra.get(x, 0)) + "}" for x in sorted(leads, key=len, reverse=True)) or "§"
+            m = re.search("let (" + W + ") = (?:" + V + "|" + others + r") in(?: |\n +)", b)
             if m:
                 x = m[1]
                 b = b[: m.start()] + re.sub(rf"(?<![\w.'-]){re.escape(x)}(?![\w'-])", var, b[m.end():])
@@ -303,8 +314,10 @@ def turn(fn, v):
             return b
         H = "|".join(sorted(map(re.escape, helpers), key=len, reverse=True))
         wanted = [helpers[m[1]] for m in re.finditer(rf"(?<![\w.'-])({H}) {re.escape(var)}(?![\w.'-])", b)]
-        many = {w for w in wanted if w != state and wanted.count(w) > 1 and goal_name}
+        module = re.match(rf"(?:--.*\n)*module _ \([^\n]* where\n", b) if not goal_name else None
+        many = {w for w in wanted if w != state and wanted.count(w) > 1 and (goal_name or module)}
         word = lambda st: re.sub(r"\W", "_", st).lower()
+        brought = {}
 
         def fit(m):
             st = helpers[m[1]]
@@ -317,12 +330,17 @@ def turn(fn, v):
             if not there:
                 there = [g for g, at in asked.items() if at == state and g in spare][:1]
                 wanted_spares.update(there)
+            if there and st in many:
+                brought[word(st)] = f"  abbrev {word(st)} : {st}\n  {word(st)} = (goal.at.{there[0]} {var}).{st}\n"
+                return f"{m[1]} {word(st)}"
             if there:
                 return f"{m[1]} (goal.at.{there[0]} {var}).{st}"
             n = above(state, st)
             return m[0] if n is None else f"{m[1]} {var}{'.before' * n}"
         b = re.sub(rf"(?<![\w.'-])({H}) {re.escape(var)}(?![\w.'-])", fit, b)
-        if many:
+        if brought:
+            b = re.sub(r"^((?:--.*\n)*module _ [^\n]* where\n)", lambda m: m[1] + "\n".join(brought.values()) + "\n", b, count=1)
+        if many and goal_name:
             lets = "".join(f"\n    let {word(st)} = (goal.at.{goal_name} {var}).{st} in" for st in sorted(many))
             b = re.sub(rf"^({re.escape(goal_name)} {re.escape(var)} =)\s*", lambda m: m[1] + lets + "\n    ", b, count=1, flags=re.M)
         return b

@@ -1,0 +1,113 @@
+-- `residues_of` meets its contract. The loop's invariant: the residues of the first k parts are there.
+use Prim.Native.Nat.{ℕ, ◌-◌, ◌≤◌, ◌<◌}
+use mathlib.Core.Path.{◌≡◌, subst, ◌∙◌}
+use mathlib.Core.List.{List, []}
+use native.Mathlib.Omega.{arith}
+use lib.IntN.{ℤ, pos}
+use Rattle.integers.specs.Bits.{stored, same, read}
+use Rattle.definitions.specs.Words.{part}
+use Rattle.definitions.specs.Layout.{parts}
+use Rattle.definitions.specs.Residues.{observed_times}
+use Rattle.laws.specs.Filled.{filled_none, filled_next, filled_to}
+use Rattle.observations.specs.declared.Observations.{Observations}
+use Rattle.observations.specs.Arrays.{observations_at}
+use Rattle.differences.specs.Differences.{left_in, ResidueAt}
+use Rattle.differences.specs.DifferenceLaws.{ratios_small, residue_is}
+use Rattle.differences.proofs.residues_of.Goals as goal
+use Rattle.differences.proofs.residues_of.Goals.{After-residue_at-residue, In-loop-k}
+
+pub overflow_mul-count : goal.overflow_mul-count
+overflow_mul-count c = omega (arith, c.requires.few)
+
+pub overflow_add-count : goal.overflow_add-count
+overflow_add-count c = omega (arith, c.requires.few)
+
+pub starts_of-starts-requires : goal.starts_of-starts-requires
+starts_of-starts-requires c = c.requires.few
+
+pub ratios_missed-shared-requires : goal.ratios_missed-shared-requires
+ratios_missed-shared-requires c =
+    record { few = c.requires.few; small = c.requires.small; starts_are = c.starts_of-starts.ensures }
+
+pub loop-k-init : goal.loop-k-init
+loop-k-init c = (omega arith, λ variances. filled_none 31 (pos 0) _)
+
+-- the next part
+module _ (c : In-loop-k) where
+  abbrev J : ℕ
+  J = c.args.last
+
+  abbrev mean : List ℤ
+  mean = c.args.mean.now
+
+  abbrev k : ℕ
+  k = c.loop-k.k
+
+  abbrev o : List ℕ → Observations
+  o variances = observations_at c.args.ticks.now c.args.weights.now variances c.args.struck.now
+
+  years : J ≤ 15
+  years = c.requires.few
+
+  below : k < parts J
+  below = c.loop-k-test.true
+
+  held : stored (part mean k) ≡ part mean k
+  held = read (part mean k) (omega (arith, c.requires.small k below))
+
+pub offset_bounds-mean-k : goal.offset_bounds-mean-k
+offset_bounds-mean-k c = omega (arith, below c, years c)
+
+pub bounds-mean-k : goal.bounds-mean-k
+bounds-mean-k c = omega (arith, below c, years c)
+
+pub residue_at-residue-requires : goal.residue_at-residue-requires
+residue_at-residue-requires c =
+    let in_loop_k = (goal.at.residue_at-residue-requires c).In-loop-k in
+    record {
+      of_steps = record {
+        of_part = record { few = years in_loop_k; below = below in_loop_k; small = rw (held in_loop_k) (c.requires.small (k in_loop_k) (below in_loop_k)) };
+        starts_are = c.starts_of-starts.ensures;
+      };
+      shared_small = λ n few.
+          rw (c.ratios_missed-shared.ensures.are [] c.args.struck.now n few) (ratios_small (J in_loop_k) (o in_loop_k []) (years in_loop_k) (mean in_loop_k) c.requires.small n few);
+    }
+
+pub offset_bounds-residues-k : goal.offset_bounds-residues-k
+offset_bounds-residues-k c =
+    let in_loop_k = (goal.at.offset_bounds-residues-k c).In-loop-k in
+    omega (arith, below in_loop_k, years in_loop_k)
+
+pub bounds-residues-k : goal.bounds-residues-k
+bounds-residues-k c =
+    let in_loop_k = (goal.at.bounds-residues-k c).In-loop-k in
+    omega (arith, below in_loop_k, years in_loop_k)
+
+pub overflow_add-k : goal.overflow_add-k
+overflow_add-k c =
+    let in_loop_k = (goal.at.overflow_add-k c).In-loop-k in
+    omega (arith, below in_loop_k, years in_loop_k)
+
+pub loop-k-smaller : goal.loop-k-smaller
+loop-k-smaller c = omega (arith, below (goal.at.loop-k-smaller c).In-loop-k)
+
+-- the residue of part k
+residue : (c : After-residue_at-residue) (variances : List ℕ) → stored c.residue_at-residue.result ≡ observed_times (left_in (J (goal.at.offset_bounds-residues-k c).In-loop-k) (o (goal.at.offset_bounds-residues-k c).In-loop-k variances)) 1 (part (mean (goal.at.offset_bounds-residues-k c).In-loop-k)) (k (goal.at.offset_bounds-residues-k c).In-loop-k)
+residue c variances =
+    let marks = c.args.struck.now in
+    let shared = c.ratios_missed-shared.result in
+    same _ c.residue_at-residue.type_inv
+    ∙ (subst (λ v. ResidueAt c.args.ticks.now c.args.weights.now marks shared (J (goal.at.offset_bounds-residues-k c).In-loop-k) (k (goal.at.offset_bounds-residues-k c).In-loop-k) v c.residue_at-residue.result) (held (goal.at.offset_bounds-residues-k c).In-loop-k)
+    c.residue_at-residue.ensures).is variances
+    ∙ residue_is (J (goal.at.offset_bounds-residues-k c).In-loop-k) (o (goal.at.offset_bounds-residues-k c).In-loop-k variances) (mean (goal.at.offset_bounds-residues-k c).In-loop-k) (k (goal.at.offset_bounds-residues-k c).In-loop-k) (below (goal.at.offset_bounds-residues-k c).In-loop-k) shared (λ n few. c.ratios_missed-shared.ensures.are variances marks n few)
+
+pub loop-k-preserved : goal.loop-k-preserved
+loop-k-preserved c =
+    let in_loop_k = (goal.at.loop-k-preserved c).In-loop-k in
+    (omega (arith, below in_loop_k), λ variances. filled_next (c.loop-k.invariant.1 variances) (omega (arith, below in_loop_k, years in_loop_k)) (residue c variances))
+
+pub returns : goal.returns
+returns c =
+    let at = c.loop-k in
+    let all : at.k ≡ parts c.args.last = omega (arith, at.invariant.0, c.loop-k-test.false) in
+    record { are = λ variances. filled_to all (at.invariant.1 variances) }

@@ -1,0 +1,22 @@
+-- `figures::right_hand::column_sums` meets its contract. The loop's invariant: the parts passed have their sums.
+use Prim.Native.Nat.{◌-◌, ◌<◌}
+use mathlib.Core.Path.{◌∙◌}
+use native.Mathlib.Omega.{arith}
+use lib.IntN.{pos}
+use Rattle.laws.specs.Filled.{filled_none, filled_next, filled_to}
+use Rattle.integers.specs.Bits.{same}
+use Rattle.figures.proofs.right_hand.column_sums.Goals as goal
+
+pub loop-k-init : goal.loop-k-init
+loop-k-init c = (omega arith, filled_none 31 (pos 0) _)
+
+pub column_sum-sum-requires : goal.column_sum-sum-requires
+column_sum-sum-requires c = record { of_rows = c.requires; below = omega (arith, c.loop-k-test.true) }
+
+pub loop-k-preserved : goal.loop-k-preserved
+loop-k-preserved c =
+    let room : c.loop-k.k < 31 = omega (arith, c.loop-k-test.true, c.requires.logs_small.few) in
+    (omega arith, filled_next c.loop-k.invariant.1 room (same c.column_sum-sum.result c.column_sum-sum.type_inv ∙ c.column_sum-sum.ensures))
+
+pub returns : goal.returns
+returns c = record { filled = filled_to (omega arith) c.loop-k.invariant.1 }
