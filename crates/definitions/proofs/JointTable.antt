@@ -5,7 +5,7 @@ use Rattle.integers.specs.Summation.{sum, total}
 use Rattle.definitions.specs.Words.{tab_from}
 use Rattle.definitions.specs.Logarithm.{logarithm, half_ticks, bits_of, highest_bit, start_from, next_bit, next_Y}
 use Rattle.definitions.specs.Weight.{weight}
-use Rattle.definitions.specs.Layout.{big_endian, unsigned, twos_complement, row_start, bytes_of, complement, number_bytes}
+use Rattle.definitions.specs.Layout.{big_endian, unsigned, twos_complement, row_start, bytes_of, complement, four_bytes, part_bytes, number_bytes}
 use Rattle.definitions.specs.Refusals.{fields, check1, check2, check3, check4, check5, check6, check7, check8, check9, check10, file_check}
 use Rattle.definitions.specs.Refusals.{record_check}
 use Rattle.definitions.specs.Observations.{ratio_variance, paid_step, incurred_step, last_ratio}
@@ -27,7 +27,7 @@ unfolding count_leading_zeros sum total tab_from logarithm half_ticks bits_of hi
     ratio_variance paid_step incurred_step last_ratio figures_from part_by_index own matrix right_hand_side residue judge_from
     ascii decimal_from signed_decimal aligned name_of index_of lines page_line part_line open_call sweep_call write_call
     sweep_text open_text program_text listed paid_variance incurred_variance paid_ultimate incurred_ultimate ultimate_of ultimate_call
-    is_step left_beside strike_check strike_call outcome paid_step_in marks_of marked ratio observed_times residue_bytes bytes_of complement
+    is_step left_beside strike_check strike_call outcome paid_step_in marks_of marked ratio observed_times residue_bytes bytes_of complement four_bytes part_bytes
     number_bytes record_check residues_call
 joint_table = record {
   log_of_1 = refl;

@@ -90,8 +90,8 @@ weights = chain_of (file_F 1)
 abbrev pub mean : ℕ → ℕ → List ℤ
 mean a b = pos (10485760 + a) ∷ pos (1048576 + b) ∷ negsuc 1048575 ∷ []
 
-abbrev pub matrix_residues : List ℤ → List ℤ
-matrix_residues μ = tab_from 0 3 (residue F (part μ))
+abbrev pub residues : List ℤ → List ℤ
+residues μ = tab_from 0 3 (residue F (part μ))
 
 -- the call `page`, lent so many bytes
 abbrev pub page_of_F : State Figures → ℕ → Outcome Figures

@@ -15,12 +15,12 @@ use Rattle.definitions.specs.Strikes.{step, unstruck, chain_left, figures_left}
 use Rattle.definitions.specs.Text.{ascii}
 use Rattle.definitions.specs.Page.{page_line, page_of}
 use Rattle.definitions.specs.Ultimate.{ultimate_of}
-use Rattle.definitions.specs.Machine.{open-file, residues, close, refused, written, ultimate_is, struck_out, empty, holds, the_file, machine}
+use Rattle.definitions.specs.Machine.{open_file, residues as call_residues, close, refused, written, ultimate_is, struck_out, empty, holds, the_file, machine}
 use Rattle.definitions.specs.Machine.{strike_call, residues_call}
 use Rattle.definitions.specs.Kept.{observed_of, kept_of, with_struck}
 use Rattle.definitions.specs.Programs.{listing, board_page}
 use Rattle.definitions.specs.Examples.{1_in_8, 0_in_8, below_2^18_in_8, above_2^46_in_8, 2^46_in_8, 2^44_in_8, above_2^44_in_8, 10T_in_4}
-use Rattle.definitions.specs.Examples.{file_of, file_F, flat_F, flat_from, amounts_F, opened_from, F, weights, mean, matrix_residues, page_of_F, ticks}
+use Rattle.definitions.specs.Examples.{file_of, file_F, flat_F, flat_from, amounts_F, opened_from, F, weights, mean, residues, page_of_F, ticks}
 use Rattle.definitions.specs.Examples.{ultimate_of_F, small_latest, small_mean, ultimate_of_three, struck_F, apart_F, own_of_three, strike_of}
 use Rattle.definitions.specs.Examples.{three_years, struck_from, observed_for, residues_of_F}
 use Rattle.definitions.specs.Examples.{record_F, longer_F, versioned_F, longer_versioned_F, record_of_three, above_F}
@@ -58,10 +58,10 @@ pub record JointTable : Type 0 where
   -- 1,310,730T, 131,073T, −131,073T
   pub F_right_hand : F.right_hand_side ≡ pos 1374400020480 ∷ pos 137440002048 ∷ negsuc 137440002047 ∷ []
   -- (10T, T, −T)
-  pub zero_residues : matrix_residues (mean 0 0) ≡ pos 0 ∷ pos 0 ∷ pos 0 ∷ []
+  pub zero_residues : residues (mean 0 0) ≡ pos 0 ∷ pos 0 ∷ pos 0 ∷ []
   pub zero_residues_pass : judgement F (part (mean 0 0)) ≡ passed
   -- (10T + 1, T, −T) and (10T + 2, T, −T)
-  pub residue_at_the_bound : matrix_residues (mean 1 0) ≡ pos 131073 ∷ pos 0 ∷ pos 0 ∷ []
+  pub residue_at_the_bound : residues (mean 1 0) ≡ pos 131073 ∷ pos 0 ∷ pos 0 ∷ []
   pub one_tick_passes : judgement F (part (mean 1 0)) ≡ passed
   pub two_ticks_fail : judgement F (part (mean 2 0)) ≡ fails 0
   -- (10T, T + 1, −T), with e = 1 and with e = 2
@@ -174,7 +174,7 @@ pub record JointTable : Type 0 where
       ≡ record { answer = struck_out; state = holds struck_F (mean 0 0) 0; buffer = [] }
   pub strike_refused : (strike_of struck_F (step 0 1 0)).state ≡ holds struck_F (mean 2 0) 7
   -- close forgets what is struck
-  pub struck_forgotten : (machine (machine (holds struck_F (mean 2 0) 7) close).state (open-file (file_F 1))).state
+  pub struck_forgotten : (machine (machine (holds struck_F (mean 2 0) 7) close).state (open_file (file_F 1))).state
       ≡ holds (unstruck (file_F 1)) (mean 0 0) 0
   -- what a session keeps then
   pub struck_kept : with_struck (step 0 0 0) (kept_of (unstruck (file_F 1))) ≡ kept_of struck_F
@@ -217,5 +217,5 @@ pub record JointTable : Type 0 where
         ∷ 165 ∷ 165 ∷ [];
   }
   -- without what is struck
-  pub residues_in_session : (machine (holds struck_F (mean 0 0) 0) (residues (record_of 1 (mean 1 1)) (replicate 24 0))).buffer
+  pub residues_in_session : (machine (holds struck_F (mean 0 0) 0) (call_residues (record_of 1 (mean 1 1)) (replicate 24 0))).buffer
       ≡ number_bytes 8 0 3 (pos 65537 ∷ pos 98305 ∷ negsuc 32767 ∷ [])

@@ -125,6 +125,19 @@ unfoldable pub bytes_of : ℕ → ℕ → Bytes
 bytes_of zero v = []
 bytes_of (suc n) v = bytes_of n (v / 256) ++ v % 256 ∷ []
 
+-- a whole number as the 4-byte number that two's complement writes for it
+unfoldable pub four_bytes : ℤ → ℕ
+four_bytes (pos n) = n
+four_bytes (negsuc n) = 2 ^ 32 - suc n
+
+unfoldable pub part_bytes : ℕ → ℕ → List ℤ → Bytes
+part_bytes k zero μ = []
+part_bytes k (suc n) μ = bytes_of 4 (four_bytes (part μ k)) ++ part_bytes (suc k) n μ
+
+-- the record of a mean
+abbrev pub record_of : ℕ → List ℤ → Bytes
+record_of J μ = bytes_of 4 (record_length J) ++ 1 ∷ part_bytes 0 (parts J) μ
+
 -- a whole number as the number that two's complement writes for it in so many bytes
 unfoldable pub complement : ℕ → ℤ → ℕ
 complement width (pos n) = n
@@ -134,7 +147,3 @@ complement width (negsuc n) = 256 ^ width - suc n
 unfoldable pub number_bytes : ℕ → ℕ → ℕ → List ℤ → Bytes
 number_bytes width k zero v = []
 number_bytes width k (suc n) v = bytes_of width (complement width (part v k)) ++ number_bytes width (suc k) n v
-
--- the record of a mean
-abbrev pub record_of : ℕ → List ℤ → Bytes
-record_of J μ = bytes_of 4 (record_length J) ++ 1 ∷ number_bytes 4 0 (parts J) μ

@@ -15,7 +15,7 @@ use Rattle.definitions.specs.Ultimate.{Latest, latest_of, Ultimate, ultimate_of}
 -- ---- calls, answers, states
 
 pub data Call : Type 0 where
-  open-file : (file : Bytes) → Call
+  open_file : (file : Bytes) → Call
   judge : (meanRecord : Bytes) → Call
   sweep : (n : ℕ) → Call
   read : (buffer : Bytes) → Call
@@ -188,7 +188,7 @@ module _ {X : Type 0} (K : Keeping X) where
   open_call (holds x μ total) f = answers (holds x μ total) (refused 22 0)
 
   unfoldable pub outcome : State X → Call → Outcome X
-  outcome st (open-file f) = open_call st f
+  outcome st (open_file f) = open_call st f
   outcome st (judge r) = answers st (judge_call K.figures st r)
   outcome st (sweep n) = sweep_call K.figures st n
   outcome st (read b) = read_call K.figures st b

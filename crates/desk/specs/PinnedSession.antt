@@ -6,7 +6,7 @@ use Rattle.std.proofs.Common.{sym, ◌∙◌}
 use Rattle.std.proofs.Math.Path.{ap}
 use Rattle.definitions.specs.Layout.{Bytes}
 use Rattle.definitions.specs.Strikes.{Step}
-use Rattle.definitions.specs.Machine.{open-file, judge, sweep, read, page, ultimate, strike, residues, close, State, map_state, Outcome, outcome}
+use Rattle.definitions.specs.Machine.{open_file, judge, sweep, read, page, ultimate, strike, residues, close, State, map_state, Outcome, outcome}
 use Rattle.definitions.specs.Kept.{Kept, chain_kept, in_session}
 use Rattle.laws.specs.MachineLaws.{residues_alone}
 use Rattle.observations.specs.declared.Observations.{Observations}
@@ -24,7 +24,7 @@ module _ (o : Observations) (s : Held) where
   st = session_state o s
 
   pub opens_all : (p : Observations) (t : Held) (file : Bytes) (r : Refusal) → Opens s o file r t p
-      → let x : Outcome Kept = outcome in_session st (open-file file) in (r ≡ refusal_told x.answer) × (session_state p t ≡ x.state)
+      → let x : Outcome Kept = outcome in_session st (open_file file) in (r ≡ refusal_told x.answer) × (session_state p t ≡ x.state)
   unfolding outcome
   opens_all p t file r call = (call.told, call.state)
 

@@ -15,7 +15,7 @@ use Rattle.definitions.specs.Residues.{residues_length}
 use Rattle.definitions.specs.Strikes.{Step, step, strike_check, is_struck}
 use Rattle.definitions.specs.Sweep.{sweep_limit}
 use Rattle.definitions.specs.Ultimate.{Latest, latest_of, ultimate_of}
-use Rattle.definitions.specs.Machine.{Call, open-file, judge, sweep, read, page, ultimate, strike, residues, row, row_told, close}
+use Rattle.definitions.specs.Machine.{Call, open_file, judge, sweep, read, page, ultimate, strike, residues, row, row_told, close}
 use Rattle.definitions.specs.Machine.{refused, ultimate_is, State, empty, holds, map_state, Keeping, Outcome, answers, open_unless, strike_unless, the_file}
 use Rattle.definitions.specs.Machine.{open_call, judge_call, sweep_call, write_call, record_in, page_in, ultimate_call, strike_call, writes_unless, residues_call}
 use Rattle.definitions.specs.Machine.{outcome, outcomes}
@@ -160,8 +160,8 @@ module _ {X Y : Type 0} (K : Keeping X) (L : Keeping Y) (φ : X → Y) (h : Alik
 
   pub outcome_alike : (st : State X) (call : Call) → outcome L (map_state φ st) call ≡ map_outcome φ (outcome K st call)
   unfolding outcome open_call
-  outcome_alike empty (open-file f) = open_alike (file_check f) f
-  outcome_alike (holds x μ total) (open-file f) = refl
+  outcome_alike empty (open_file f) = open_alike (file_check f) f
+  outcome_alike (holds x μ total) (open_file f) = refl
   outcome_alike st (judge r) = ap (answers (map_state φ st)) (judge_alike φ K.figures L.figures h.figures st r)
   outcome_alike st (sweep n) = sweep_alike φ K.figures L.figures h.figures st n
   outcome_alike st (read b) = write_alike φ K.figures L.figures h.figures record_length record_in st b

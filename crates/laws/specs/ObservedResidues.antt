@@ -19,17 +19,17 @@ use Rattle.laws.specs.Judged.{residue_of_chain}
 use Rattle.laws.specs.NumberBytes.{bytes_read, number_bytes_length, number_bytes_at}
 use Rattle.laws.specs.SameChains.{SameChain, with_years, IsPart, is_part}
 use Rattle.laws.specs.Tables.{tab_at, tab_cong}
-use Rattle.laws.specs.Theorem34.{residue_by_observations}
+use Rattle.laws.specs.Theorem34.{residue_is_observed}
 
 module _ (c : Chain) (u : Vector) where
   -- those that judge tests, whatever the closeness
   pub observed_is_residue : (e k : ℕ) → k < parts c.last → observed_times c 1 u k ≡ residue (figures_from c e) u k
-  observed_is_residue e k below = sym (residue_of_chain c e u k below ∙ residue_by_observations c 1 u k below)
+  observed_is_residue e k below = sym (residue_of_chain c e u k below ∙ residue_is_observed c 1 u k below)
 
   pub observed_fits : Bounded c → ((l : ℕ) → l < parts c.last → nat_abs (u l) ≤ part_limit) → (k : ℕ) → k < parts c.last
       → nat_abs (observed_times c 1 u k) ≤ 19732 * 2 ^ 47
   observed_fits h small k below =
-      subst (λ z. nat_abs z ≤ 19732 * 2 ^ 47) (residue_by_observations c 1 u k below) (residue_fits c h u small k below)
+      subst (λ z. nat_abs z ≤ 19732 * 2 ^ 47) (residue_is_observed c 1 u k below) (residue_fits c h u small k below)
 
   pub residues_long : length (residue_bytes c u) ≡ residues_length c.last
   unfolding residue_bytes

@@ -78,8 +78,8 @@ module _ (name A B C : Bytes) (three : length name ≡ 3) (two : length A ≡ 2)
     text_length : length text ≡ 28
     text_length =
         let last_long : length last ≡ 11 = omega (arith, length-append C (line_feed ∷ []), ten) in
-        let mean-long : length from_mean ≡ 21 = omega (arith, length-append B (space ∷ last), nine, last_long) in
-        let index_long : length from_index ≡ 24 = omega (arith, length-append A (space ∷ from_mean), two, mean-long) in
+        let mean_long : length from_mean ≡ 21 = omega (arith, length-append B (space ∷ last), nine, last_long) in
+        let index_long : length from_index ≡ 24 = omega (arith, length-append A (space ∷ from_mean), two, mean_long) in
         ap length from_front ∙ omega (arith, length-append name (space ∷ from_index), three, index_long)
 
     weight_at : columns 18 27 text ≡ C

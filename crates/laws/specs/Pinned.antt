@@ -14,7 +14,7 @@ use Rattle.definitions.specs.Observations.{Chain}
 use Rattle.definitions.specs.Refusals.{clear, row_check}
 use Rattle.definitions.specs.Matrix.{own, residue_times, passes}
 use Rattle.definitions.specs.Strikes.{Step, StruckFile, Admitted, chain_left, figures_left}
-use Rattle.definitions.specs.Machine.{Call, open-file, judge, sweep, read, page, ultimate, strike, residues, row, row_told, close}
+use Rattle.definitions.specs.Machine.{Call, open_file, judge, sweep, read, page, ultimate, strike, residues, row, row_told, close}
 use Rattle.definitions.specs.Machine.{State, empty, map_state, Keeping, outcomes}
 use Rattle.definitions.specs.Machine.{closed, refused, part_shown, row_is_shown, refused_or, row_part}
 use Rattle.definitions.specs.Machine.{record_in, page_in, open_call, judge_call, sweep_call, read_call, page_call, ultimate_call, strike_call, residues_call}
@@ -99,7 +99,7 @@ module _ (f : StruckFile) where
 
 module _ (X : Type 0) (K : Keeping X) (st : State X) where
   pub record Machine : Type 0 where
-    pub opens : (f : Bytes) → outcome K st (open-file f) ≡ open_call K st f
+    pub opens : (f : Bytes) → outcome K st (open_file f) ≡ open_call K st f
     pub judges : (r : Bytes) → (outcome K st (judge r)).answer ≡ judge_call K.figures st r
     pub judges_alone : (r : Bytes) → (outcome K st (judge r)).state ≡ st
     pub sweeps : (n : ℕ) → outcome K st (sweep n) ≡ sweep_call K.figures st n
@@ -144,7 +144,7 @@ module _ (X : Type 0) (K : Keeping X) (st : State X) where
 call_numbered : (X : Type 0) (K : Keeping X) (st : State X) (call : Call)
     → N.NumberedAnswer (outcome K st call).answer
 unfolding outcome
-call_numbered X K st (open-file f) = N.open_numbered K st f
+call_numbered X K st (open_file f) = N.open_numbered K st f
 call_numbered X K st (judge r) = N.judge_numbered K.figures st r
 call_numbered X K st (sweep n) = N.sweep_numbered K.figures st n
 call_numbered X K st (read b) = N.write_numbered K.figures record_length record_in st b

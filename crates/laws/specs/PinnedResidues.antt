@@ -20,7 +20,7 @@ use Rattle.laws.specs.ObservedResidues.{observed_is_residue, residues_read}
 use Rattle.laws.specs.Ranks.{part_by_index_phi, part_by_index_psi}
 use Rattle.laws.specs.ReachedStates.{Good, after, reached_good}
 use Rattle.laws.specs.StruckChain.{struck_chain}
-use Rattle.laws.specs.Theorem34.{residue_by_observations}
+use Rattle.laws.specs.Theorem34.{residue_is_observed}
 
 module _ (f : StruckFile) (u : Vector) where
   abbrev J : ℕ
@@ -82,7 +82,7 @@ module _ (f : StruckFile) (u : Vector) where
       → residue_of k ≡ sum (2 * J + 1) (λ l. matrix (chain_left f) k l *ℤ u l) -ℤ right_hand_side (chain_left f) k
   unfolding residue_times
   residue_by_matrix k below =
-      sym (residue_by_observations (chain_left f) 1 u k below)
+      sym (residue_is_observed (chain_left f) 1 u k below)
       ∙ ap (λ b. sum (2 * J + 1) (λ l. matrix (chain_left f) k l *ℤ u l) -ℤ b) (*ℤ_idl (right_hand_side (chain_left f) k))
 
   -- and what judge tests

@@ -12,7 +12,7 @@ use Rattle.definitions.specs.Refusals.{Check, clear, refuses, file_check, part_l
 use Rattle.definitions.specs.Matrix.{Figures, figures_from, passes}
 use Rattle.definitions.specs.Strikes.{Step, strike_check, StruckFile, is_struck, Admitted, chain_left, figures_left}
 use Rattle.definitions.specs.Sweep.{sweeps, sweep_limit, one_sweep}
-use Rattle.definitions.specs.Machine.{Call, open-file, judge, sweep, read, page, ultimate, strike, residues, row, row_told, close}
+use Rattle.definitions.specs.Machine.{Call, open_file, judge, sweep, read, page, ultimate, strike, residues, row, row_told, close}
 use Rattle.definitions.specs.Machine.{State, empty, holds, Outcome, open_unless, strike_unless, the_file}
 use Rattle.definitions.specs.Machine.{open_call, sweep_call, write_call, record_in, page_in, strike_call, outcome, machine}
 use Rattle.laws.specs.Accepted.{accepted_file, AcceptedFile}
@@ -81,14 +81,14 @@ good_strike f μ total s g (refuses number place) e = g
 
 pub good_call : (st : State StruckFile) (call : Call) → Good st → Good (machine st call).state
 unfolding outcome open_call sweep_call strike_call figures_from
-good_call empty (open-file f) g = by_check (file_check f) refl
+good_call empty (open_file f) g = by_check (file_check f) refl
   where
     by_check : (c : Check) → file_check f ≡ c → Good (open_unless the_file c f).state
     by_check clear e =
         let yes_file : accepted f ≡ true = ap is_clear e in
         (admitted f yes_file, priors_mean f (accepted_file f yes_file), zero-le)
     by_check (refuses number place) e = tt
-good_call (holds f μ total) (open-file h) g = g
+good_call (holds f μ total) (open_file h) g = g
 good_call st (judge r) g = g
 good_call empty (sweep n) g = g
 good_call (holds f μ total) (sweep n) g =

@@ -1,6 +1,6 @@
 -- Theorem 3.4 of the paper, on rounded weights and in the specification's terms: for every vector the residue by the matrix is
 -- the residue observation by observation, and the loss of u/m expands around a mean with that residue and matrix as its coefficients.
-use Rattle.std.specs.Prelude.{ℕ, ◌+◌, ◌-◌, ◌<◌, ◌≡◌, [], ◌∷◌, ℤ, negsuc, ◌+ℤ◌, ◌-ℤ◌, ◌*ℤ◌}
+use Rattle.std.specs.Prelude.{ℕ, ◌+◌, ◌-◌, ◌<◌, ◌≡◌, refl, [], ◌∷◌, ℤ, negsuc, ◌+ℤ◌, ◌-ℤ◌, ◌*ℤ◌}
 use Rattle.std.proofs.Common.{sym, ap, ◌∙◌, arith}
 use Rattle.std.proofs.Math.Path.{ap₂}
 use Rattle.std.proofs.Math.IntN.{pos}
@@ -12,7 +12,7 @@ use Rattle.definitions.specs.Layout.{parts}
 use Rattle.definitions.specs.Loss.{Vector, phi, psi, weighted, ratio, loss, loss_times}
 use Rattle.definitions.specs.Observations.{Chain}
 use Rattle.definitions.specs.Matrix.{Part, Φ, Ψ, part_by_index, own_of, own, residue_times}
-use Rattle.definitions.specs.Residues.{ratios_missed, residue_by, observed_times}
+use Rattle.definitions.specs.Residues.{residue_by, observed_times}
 use Rattle.laws.specs.Quadratic.{missed, felt, apart, expansion}
 use Rattle.laws.specs.LossForm.{combined_is_ratio, loss_is_form}
 use Rattle.laws.specs.PrecisionMatrix.{loss_form, firsts_of, by_development, felt_by_rank, residue_is_form}
@@ -33,7 +33,52 @@ module _ (c : Chain) where
   J = c.last
 
   module _ (m : ℕ) (u : Vector) where
-    -- a part of the vector
+    -- Σ g_(J−i)·(what the vector misses y_i by) over the last n accident years
+    abbrev pub ratios_missed : ℕ → ℤ
+    ratios_missed n = sum n (λ k. let i : ℕ = J - n + 1 + k in pos (c.g (J - i)) *ℤ (ratio c u i -ℤ pos m *ℤ c.y i))
+
+    -- weight times difference: the prior and the part's own observations, then the ratios that it shares in
+    abbrev own_missed : Part → ℤ → ℤ
+    own_missed (Φ j) v = pos (c.s j) *ℤ (v -ℤ pos m *ℤ c.prior_Φ j) +ℤ sum (J - j + 1) (λ i. pos (c.p i j) *ℤ (v -ℤ pos m *ℤ c.x i j))
+    own_missed (Ψ j) v = pos (c.t j) *ℤ (v -ℤ pos m *ℤ c.prior_Ψ j) +ℤ sum (J - j) (λ i. pos (c.q i j) *ℤ (v -ℤ pos m *ℤ c.z i j))
+
+    abbrev pub observed_residue : Part → ℤ → ℤ
+    observed_residue (Φ j) v = own_missed (Φ j) v +ℤ ratios_missed j
+    observed_residue (Ψ j) v = own_missed (Ψ j) v -ℤ ratios_missed (j + 1)
+
+    own_side_lem : (w : ℕ → ℕ) (n s : ℕ) (o : ℕ → ℤ) (prior v : ℤ)
+        → pos (s + total n w) *ℤ v -ℤ pos m *ℤ (pos s *ℤ prior +ℤ sum n (λ i. pos (w i) *ℤ o i))
+        ≡ pos s *ℤ (v -ℤ pos m *ℤ prior) +ℤ sum n (λ i. pos (w i) *ℤ (v -ℤ pos m *ℤ o i))
+    own_side_lem w n s o prior v =
+        ring (pos s ∷ pos (total n w) ∷ v ∷ pos m ∷ prior ∷ sum n (λ i. pos (w i) *ℤ o i) ∷ [])
+        (λ s w v m p x. (s ⊞ w) ⊠ v ⊟ m ⊠ (s ⊠ p ⊞ x) ≐ s ⊠ (v ⊟ m ⊠ p) ⊞ (w ⊠ v ⊟ m ⊠ x)) tt
+        ∙ ap (λ z. pos s *ℤ (v -ℤ pos m *ℤ prior) +ℤ z) (sym (column w n o (pos m) v))
+
+    by_kind : (a : Part) (v : ℤ)
+        → pos (own_of c a) *ℤ v -ℤ pos m *ℤ firsts_of c a +ℤ sign_of a *ℤ ratios_missed (rank_of a) ≡ observed_residue a v
+    by_kind (Φ j) v = ap₂ ◌+ℤ◌ (own_side_lem (λ i. c.p i j) (J - j + 1) (c.s j) (λ i. c.x i j) (c.prior_Φ j) v) (*ℤ_idl (ratios_missed j))
+    by_kind (Ψ j) v =
+        ap (λ z. z +ℤ negsuc 0 *ℤ ratios_missed (j + 1)) (own_side_lem (λ i. c.q i j) (J - j) (c.t j) (λ i. c.z i j) (c.prior_Ψ j) v)
+        ∙ ring (own_missed (Ψ j) v ∷ ratios_missed (j + 1) ∷ []) (λ o r. o ⊞ ⊖ num 1 ⊠ r ≐ o ⊟ r) tt
+
+    felt_is_missed : (k : ℕ) → k < parts J → let a : Part = part_by_index J k in
+        felt (loss_form c) k (missed (loss_form c) (pos m) u) ≡ sign_of a *ℤ ratios_missed (rank_of a)
+    felt_is_missed k below =
+        let a : Part = part_by_index J k in
+        let in_years = rank_below J k below in
+        felt_by_rank c (missed (loss_form c) (pos m) u) (rank_of a) (sign_of a) in_years
+        ∙ ap (λ z. sign_of a *ℤ z)
+        (sum_cong (rank_of a) (λ d past. ap (λ s. pos (c.g d) *ℤ (s -ℤ pos m *ℤ c.y (J - d))) (combined_is_ratio c u d (omega arith)))
+        ∙ sym (by_development c (λ d i. pos (c.g d) *ℤ (ratio c u i -ℤ pos m *ℤ c.y i)) (rank_of a) in_years))
+
+    pub residue_by_observations : (k : ℕ) → k < parts J → residue_times c m u k ≡ observed_residue (part_by_index J k) (u k)
+    unfolding own
+    residue_by_observations k below =
+        residue_is_form c m u k below
+        ∙ ap (λ z. pos (own_of c (part_by_index J k)) *ℤ u k -ℤ pos m *ℤ firsts_of c (part_by_index J k) +ℤ z) (felt_is_missed k below)
+        ∙ by_kind (part_by_index J k) (u k)
+
+    -- in the definitions' words
     abbrev at : Part → ℤ
     at (Φ j) = phi c u j
     at (Ψ j) = psi c u j
@@ -44,43 +89,14 @@ module _ (c : Chain) where
         (λ j below. ap at (sym (part_by_index_phi J j below)))
         (λ j below. ap at (sym (part_by_index_psi J j)))
 
-    own_side_lem : (w : ℕ → ℕ) (n s : ℕ) (o : ℕ → ℤ) (prior v : ℤ)
-        → pos (s + total n w) *ℤ v -ℤ pos m *ℤ (pos s *ℤ prior +ℤ sum n (λ i. pos (w i) *ℤ o i))
-        ≡ pos s *ℤ (v -ℤ pos m *ℤ prior) +ℤ sum n (λ i. pos (w i) *ℤ (v -ℤ pos m *ℤ o i))
-    own_side_lem w n s o prior v =
-        ring (pos s ∷ pos (total n w) ∷ v ∷ pos m ∷ prior ∷ sum n (λ i. pos (w i) *ℤ o i) ∷ [])
-        (λ s w v m p x. (s ⊞ w) ⊠ v ⊟ m ⊠ (s ⊠ p ⊞ x) ≐ s ⊠ (v ⊟ m ⊠ p) ⊞ (w ⊠ v ⊟ m ⊠ x)) tt
-        ∙ ap (λ z. pos s *ℤ (v -ℤ pos m *ℤ prior) +ℤ z) (sym (column w n o (pos m) v))
+    as_defined : (a : Part) → observed_residue a (at a) ≡ residue_by c m u a
+    as_defined (Φ j) = refl
+    as_defined (Ψ j) = refl
 
-    by_kind : (a : Part)
-        → pos (own_of c a) *ℤ at a -ℤ pos m *ℤ firsts_of c a +ℤ sign_of a *ℤ ratios_missed c m u (rank_of a) ≡ residue_by c m u a
-    by_kind (Φ j) =
-        ap₂ ◌+ℤ◌ (own_side_lem (λ i. c.p i j) (J - j + 1) (c.s j) (λ i. c.x i j) (c.prior_Φ j) (phi c u j)) (*ℤ_idl (ratios_missed c m u j))
-    by_kind (Ψ j) =
-        let ratios : ℤ = ratios_missed c m u (j + 1) in
-        ap (λ z. z +ℤ negsuc 0 *ℤ ratios) (own_side_lem (λ i. c.q i j) (J - j) (c.t j) (λ i. c.z i j) (c.prior_Ψ j) (psi c u j))
-        ∙ ring (own_missed ∷ ratios ∷ []) (λ o r. o ⊞ ⊖ num 1 ⊠ r ≐ o ⊟ r) tt
-      where
-        own_missed : ℤ
-        own_missed =
-            pos (c.t j) *ℤ (psi c u j -ℤ pos m *ℤ c.prior_Ψ j) +ℤ sum (J - j) (λ i. pos (c.q i j) *ℤ (psi c u j -ℤ pos m *ℤ c.z i j))
-
-    felt_is_missed : (k : ℕ) → k < parts J → let a : Part = part_by_index J k in
-        felt (loss_form c) k (missed (loss_form c) (pos m) u) ≡ sign_of a *ℤ ratios_missed c m u (rank_of a)
-    felt_is_missed k below =
-        let a : Part = part_by_index J k in
-        let in_years = rank_below J k below in
-        felt_by_rank c (missed (loss_form c) (pos m) u) (rank_of a) (sign_of a) in_years
-        ∙ ap (λ z. sign_of a *ℤ z)
-        (sum_cong (rank_of a) (λ d past. ap (λ s. pos (c.g d) *ℤ (s -ℤ pos m *ℤ c.y (J - d))) (combined_is_ratio c u d (omega arith)))
-        ∙ sym (by_development c (λ d i. pos (c.g d) *ℤ (ratio c u i -ℤ pos m *ℤ c.y i)) (rank_of a) in_years))
-
-    pub residue_by_observations : (k : ℕ) → k < parts J → residue_times c m u k ≡ observed_times c m u k
-    unfolding own observed_times
-    residue_by_observations k below =
-        residue_is_form c m u k below
-        ∙ ap₂ (λ v z. pos (own_of c (part_by_index J k)) *ℤ v -ℤ pos m *ℤ firsts_of c (part_by_index J k) +ℤ z) (part_at k below) (felt_is_missed k below)
-        ∙ by_kind (part_by_index J k)
+    pub residue_is_observed : (k : ℕ) → k < parts J → residue_times c m u k ≡ observed_times c m u k
+    unfolding observed_times
+    residue_is_observed k below =
+        residue_by_observations k below ∙ ap (observed_residue (part_by_index J k)) (part_at k below) ∙ as_defined (part_by_index J k)
 
   -- the loss of u/m around a mean μ, w being u − m·μ: m²·loss(μ) + 2m·Σ residue·w + ΣD·w² + Σg·(ratio of w)²
   pub loss_expands : (m : ℕ) (u μ : Vector) → let w : Vector = λ k. u k -ℤ pos m *ℤ μ k in loss_times c m u

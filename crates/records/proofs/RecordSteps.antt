@@ -1,22 +1,22 @@
 -- One turn of the loops over a record's parts: the mean that is read so far, and the buffer that is written so far.
 use mathlib.Core.Path.{◌≡◌, refl, sym, ap, ap₂, ◌∙◌}
 use mathlib.Core.Bool.{true, false}
-use mathlib.Core.List.{List, [], ◌∷◌, ◌++◌, append_assoc}
-use Prim.Native.Nat.{ℕ, suc, ◌+◌, ◌*◌, ◌-◌, ◌≤◌, ◌<◌, ◌^◌}
+use mathlib.Core.List.{List, [], ◌∷◌, ◌++◌, append_assoc, append-nil}
+use Prim.Native.Nat.{ℕ, suc, ◌+◌, ◌*◌, ◌-◌, ◌/◌, ◌%◌, ◌≤◌, ◌<◌, ◌^◌}
 use native.Mathlib.Nat.{zero-add}
-use native.Mathlib.Numerals.{add-one}
+use native.Mathlib.Numerals.{add-one, add-two, add-three}
 use native.Mathlib.Omega.{arith}
 use borrow.Author.Tests.{ltb-true}
 use lib.IntN.{ℤ, pos, negsuc, nat_abs, ◌+ℤ◌}
-use lib.ListN.{length, take, drop, set, replicate, length-append, get_or}
-use lib.Seq.{set_at, take_at, drop-append-add, drop-drop, drop-cons}
+use lib.ListN.{length, take, drop, set, replicate, length-append, take-append-drop, get_or}
+use lib.Seq.{set_at, sets-eq, take_at, drop-append-add, drop-drop, drop-cons, length-take-le}
 use lib.Signed.{lt_z}
 use Rattle.integers.specs.Linear.{linear}
-use Rattle.definitions.specs.Words.{tab_from}
-use Rattle.definitions.specs.Layout.{Bytes, parts, record_length, bytes_of, complement, number_bytes, record_of}
+use Rattle.definitions.specs.Words.{tab_from, part}
+use Rattle.definitions.specs.Layout.{Bytes, parts, record_length, bytes_of, four_bytes, part_bytes, record_of}
 use Rattle.definitions.specs.Refusals.{part_limit}
-use Rattle.laws.specs.NumberBytes.{bytes_length, with_numbers}
 use Rattle.laws.specs.Tables.{tab_from_length, tab_from_snoc}
+use Rattle.records.specs.Records.{FourPut, with_parts, bytes_length, part_bytes_length, part_bytes_snoc}
 
 -- ---- reading: part k in place of the first zero
 
@@ -32,15 +32,65 @@ read_next f size k h =
 
 -- ---- a negative part as a number of four bytes
 
-pub four_negative : (z : ℤ) → nat_abs z ≤ part_limit → lt_z z (pos 0) ≡ true → z +ℤ pos (2 ^ 32) ≡ pos (complement 4 z)
-unfolding complement
+pub four_negative : (z : ℤ) → nat_abs z ≤ part_limit → lt_z z (pos 0) ≡ true → z +ℤ pos (2 ^ 32) ≡ pos (four_bytes z)
+unfolding four_bytes
 four_negative (pos n) h e = absurd (omega (arith, ltb-true n 0 e))
 four_negative (negsuc n) h e = simp linear (omega arith)
 
-pub four_positive : (z : ℤ) → lt_z z (pos 0) ≡ false → z ≡ pos (complement 4 z)
-unfolding complement
+pub four_positive : (z : ℤ) → lt_z z (pos 0) ≡ false → z ≡ pos (four_bytes z)
+unfolding four_bytes
 four_positive (pos n) e = refl
 four_positive (negsuc n) e = cc
+
+-- ---- writing: four bytes, from the place `at` on
+
+pub four_put : (b : Bytes) (v at : ℕ) {i j k : ℕ} → i ≡ at + 1 → j ≡ at + 2 → k ≡ at + 3 → at + 4 ≤ length b
+    → FourPut b at v (set (set (set (set b at (v / 256 / 256 / 256 % 256)) i (v / 256 / 256 % 256)) j (v / 256 % 256)) k (v % 256))
+unfolding bytes_of
+four_put b v at {i} {j} {k} second third fourth room = record {
+  is = rw (second ∙ add-one at, third ∙ add-two at, fourth ∙ add-three at)
+      (sets-eq (v / 256 / 256 / 256 % 256 ∷ v / 256 / 256 % 256 ∷ v / 256 % 256 ∷ v % 256 ∷ []) b at room);
+}
+
+-- ---- the bytes of part k behind those of the parts before it
+
+module _ (b : Bytes) (μ : List ℤ) where
+  abbrev put : ℕ → Bytes
+  put = with_parts b μ
+
+  pub put_none : b ≡ put 0
+  unfolding part_bytes
+  put_none = sym (ap (λ l. l ++ drop 5 b) (append-nil (take 5 b)) ∙ take-append-drop 5 b)
+
+  abbrev written : ℕ → Bytes
+  written k = take 5 b ++ part_bytes 0 k μ
+
+  written_length : (k : ℕ) → 5 ≤ length b → length (written k) ≡ 5 + 4 * k
+  written_length k h = length-append (take 5 b) (part_bytes 0 k μ) ∙ ap₂ ◌+◌ (length-take-le 5 b h) (part_bytes_length μ 0 k)
+
+  -- part k is written: v at the place p of the buffer c, which then is d
+  pub put_next : (k : ℕ) {c d : Bytes} {p v : ℕ} → c ≡ put k → FourPut c p v d
+      → p ≡ 5 + 4 * k → v ≡ four_bytes (part μ k) → 5 + 4 * k + 4 ≤ length b → d ≡ put (k + 1)
+  put_next k {c} {d} {p} {v} so_far stored place value room =
+      let at = 5 + 4 * k in
+      let four = bytes_of 4 (four_bytes (part μ k)) in
+      let long : length (written k) ≡ at = written_length k (omega arith) in
+      let front : take at (put k) ≡ written k = take_at (written k) (drop at b) at long in
+      let next : at + 4 ≡ 5 + 4 * (k + 1) = omega arith in
+      let behind : drop (at + 4) (put k) ≡ drop (5 + 4 * (k + 1)) b =
+      ap (λ n. drop (n + 4) (put k)) (sym long)
+      ∙ drop-append-add (written k) (drop at b) 4
+      ∙ drop-drop 4 at b
+      ∙ ap (λ n. drop n b) next in
+      let one_more : part_bytes 0 k μ ++ four ≡ part_bytes 0 (k + 1) μ =
+      ap (λ j. part_bytes 0 k μ ++ bytes_of 4 (four_bytes (part μ j))) (sym (zero-add k))
+      ∙ sym (part_bytes_snoc μ 0 k)
+      ∙ ap (λ n. part_bytes 0 n μ) (sym (add-one k)) in
+      let more : written k ++ four ≡ written (k + 1) =
+      append_assoc (take 5 b) (part_bytes 0 k μ) four ∙ ap (λ l. take 5 b ++ l) one_more in
+      rw (so_far, place, value) at stored.is
+      ∙ ap₂ (λ x y. x ++ four ++ y) front behind
+      ∙ ap (λ l. l ++ drop (5 + 4 * (k + 1)) b) more
 
 -- ---- the header before the parts
 
@@ -60,15 +110,15 @@ module _ (J : ℕ) (b : Bytes) (μ : List ℤ) where
   unfolding header
   header_behind = sym (append_assoc (bytes_of 4 (record_length J)) (1 ∷ []) (drop 5 b))
 
-  pub record_put : with_numbers 4 5 headed μ (parts J) ≡ record_of J μ ++ drop (record_length J) b
+  pub record_put : with_parts headed μ (parts J) ≡ record_of J μ ++ drop (record_length J) b
   unfolding header
   record_put =
       let front : take 5 headed ≡ header = ap (take 5) header_behind ∙ take_at header (drop 5 b) 5 header_length in
       let behind : drop (record_length J) headed ≡ drop (record_length J) b
       = ap (drop (record_length J)) header_behind ∙ ap (λ n. drop (n + 4 * parts J) (header ++ drop 5 b)) (sym header_length)
       ∙ drop-append-add header (drop 5 b) (4 * parts J) ∙ drop-drop (4 * parts J) 5 b in
-      ap₂ (λ x y. x ++ number_bytes 4 0 (parts J) μ ++ y) front behind
-      ∙ ap (λ l. l ++ drop (record_length J) b) (append_assoc (bytes_of 4 (record_length J)) (1 ∷ []) (number_bytes 4 0 (parts J) μ))
+      ap₂ (λ x y. x ++ part_bytes 0 (parts J) μ ++ y) front behind
+      ∙ ap (λ l. l ++ drop (record_length J) b) (append_assoc (bytes_of 4 (record_length J)) (1 ∷ []) (part_bytes 0 (parts J) μ))
 
 -- the fifth byte behind the four of the length
 pub header_put : (n : ℕ) (b : Bytes) → 5 ≤ length b → set (take 0 b ++ bytes_of 4 n ++ drop (0 + 4) b) 4 1 ≡ bytes_of 4 n ++ 1 ∷ drop 5 b

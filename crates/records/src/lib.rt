@@ -2,12 +2,10 @@
 #![tactic(auto)]
 
 ghost use Rattle.std.specs.Prelude.{◌≡◌, ◌∷◌, ◌++◌, ◌+◌, ◌≤◌, ◌^◌, length, drop, nat_abs};
-ghost use Rattle.definitions.specs.Layout.{parts, record_length, record_of, bytes_of, complement};
-ghost use Rattle.records.specs.Records.{Writes};
-ghost use Rattle.laws.specs.NumberBytes.{with_numbers};
+ghost use Rattle.definitions.specs.Layout.{parts, record_length, record_of, bytes_of, four_bytes};
+ghost use Rattle.records.specs.Records.{Writes, FourPut, with_parts};
 ghost use Rattle.records.specs.Parse.{ParsedParts, ParsedRecord};
 
-use fields::put::put_four;
 use fields::{SignedField, signed_4};
 use layout::checks::Check;
 use layout::checks::record::check_head;
@@ -75,13 +73,24 @@ pub fn parse(last: u8, r: &[u8]) -> Parsed
 // A part in two's complement.
 fn four_bytes(z: i64) -> u64
     requires { nat_abs z ≤ 2 ^ 26 }
-    ensures { result ≡ complement 4 z }
+    ensures { result ≡ four_bytes z }
 {
     if z < 0 {
         (z + 4294967296) as u64
     } else {
         z as u64
     }
+}
+
+// Four bytes of a number, first byte highest, in place of those that were there.
+fn put_four(buf: &mut [u8], at: usize, v: u64)
+    requires { at + 4 ≤ length buf.old }
+    ensures { FourPut buf.old at v buf.new }
+{
+    buf[at] = (v / 256 / 256 / 256 % 256) as u8;
+    buf[at + 1] = (v / 256 / 256 % 256) as u8;
+    buf[at + 2] = (v / 256 % 256) as u8;
+    buf[at + 3] = (v % 256) as u8;
 }
 
 fn put_header(buf: &mut [u8], last: u8)
@@ -94,7 +103,7 @@ fn put_header(buf: &mut [u8], last: u8)
 
 fn put_parts(buf: &mut [u8], last: u8, mean: &[i64; 31])
     requires { Writes last mean.now buf.old }
-    ensures { buf.new ≡ with_numbers 4 5 buf.old mean.now (parts last) }
+    ensures { buf.new ≡ with_parts buf.old mean.now (parts last) }
 {
     let n = parts_of(last);
     let mut k = 0usize;

@@ -5,7 +5,7 @@ use Rattle.definitions.specs.Layout.{Bytes, last_year}
 use Rattle.definitions.specs.Matrix.{figures_from, figures_of}
 use Rattle.definitions.specs.Strikes.{StruckFile, figures_left}
 use Rattle.definitions.specs.Programs.{Show, program_text, refusal_line, spent_line}
-use Rattle.definitions.specs.Machine.{opened, refused, open-file, State, empty, holds, map_state, open_call, sweep_call, write_call, outcome, the_file}
+use Rattle.definitions.specs.Machine.{opened, refused, open_file, State, empty, holds, map_state, open_call, sweep_call, write_call, outcome, the_file}
 use Rattle.definitions.specs.Kept.{kept_of, in_session}
 use Rattle.laws.specs.MachineLaws.{map_outcome, sweep_alike, outcome_alike, session_alike}
 use Rattle.laws.specs.Printed.{MeanSettled, Ends, opening, sweeping, swept_ends}
@@ -27,7 +27,7 @@ use Rattle.session.specs.Value.{held_by}
 module _ (given : Bytes) where
   pub opens_as_file : open_call in_session empty given ≡ map_outcome kept_of (opening given)
   unfolding outcome
-  opens_as_file = outcome_alike the_file in_session kept_of session_alike empty (open-file given)
+  opens_as_file = outcome_alike the_file in_session kept_of session_alike empty (open_file given)
 
   pub swept_as_file : sweep_call (λ F. F) (map_state figures_left (opening given).state) 4096 ≡ map_outcome figures_left (sweeping given)
   swept_as_file = sweep_alike figures_left figures_left (λ F. F) (λ f. refl) (opening given).state 4096

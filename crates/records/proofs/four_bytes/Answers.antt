@@ -9,7 +9,7 @@ use mir.Syntax.{w64}
 use mir.Val.{to_z, of_z}
 use mir.Facts.{to_z-of_z}
 use Rattle.integers.specs.Size.{fits, kept}
-use Rattle.definitions.specs.Layout.{complement}
+use Rattle.definitions.specs.Layout.{four_bytes}
 use Rattle.records.specs.Records.{four_small}
 use Rattle.records.proofs.RecordSteps.{four_negative, four_positive}
 use Rattle.records.proofs.four_bytes.Goals as goal
@@ -18,15 +18,15 @@ use Rattle.records.proofs.four_bytes.Goals.{Else-z-lt0, Start, Then-z-lt0}
 held : (c : Start) → to_z w64 (of_z w64 c.args.z) ≡ c.args.z
 held c = to_z-of_z c.ranges.z
 
-small : (c : Start) → complement 4 c.args.z < 2 ^ 63
+small : (c : Start) → four_bytes c.args.z < 2 ^ 63
 small c = omega (arith, four_small c.args.z c.requires)
 
-sum : (c : Then-z-lt0) → to_z w64 (of_z w64 c.args.z) +ℤ pos (2 ^ 32) ≡ pos (complement 4 c.args.z)
+sum : (c : Then-z-lt0) → to_z w64 (of_z w64 c.args.z) +ℤ pos (2 ^ 32) ≡ pos (four_bytes c.args.z)
 sum c =
     ap (λ z. z +ℤ pos (2 ^ 32)) (held (goal.at.overflow_add-result c).Start)
     ∙ four_negative c.args.z c.requires (subst (λ z. lt_z z (pos 0) ≡ true) (held (goal.at.overflow_add-result c).Start) c.if-z-lt0.true)
 
-plain : (c : Else-z-lt0) → to_z w64 (of_z w64 c.args.z) ≡ pos (complement 4 c.args.z)
+plain : (c : Else-z-lt0) → to_z w64 (of_z w64 c.args.z) ≡ pos (four_bytes c.args.z)
 plain c = held (goal.at.overflow_cast-result-else-z-lt0 c).Start ∙ four_positive c.args.z (subst (λ z. lt_z z (pos 0) ≡ false) (held (goal.at.overflow_cast-result-else-z-lt0 c).Start) c.if-z-lt0.false)
 
 pub overflow_add-result : goal.overflow_add-result

@@ -8,13 +8,14 @@ use mir.Syntax.{w64}
 use mir.Val.{to_z, of_z}
 use Rattle.integers.specs.Size.{kept}
 use Rattle.definitions.specs.Words.{part}
-use Rattle.definitions.specs.Layout.{parts, complement}
-use Rattle.laws.specs.NumberBytes.{with_numbers, put_none, put_next}
+use Rattle.definitions.specs.Layout.{parts, four_bytes}
+use Rattle.records.specs.Records.{with_parts}
+use Rattle.records.proofs.RecordSteps.{put_none, put_next}
 use Rattle.records.proofs.put_parts.Goals as goal
 use Rattle.records.proofs.put_parts.Goals.{In-loop-k}
 
 pub loop-k-init : goal.loop-k-init
-loop-k-init c = let a = c.args in (put_none 4 5 a.buf.now a.mean.now, refl, omega arith)
+loop-k-init c = let a = c.args in (put_none a.buf.now a.mean.now, refl, omega arith)
 
 small : (c : In-loop-k) → nat_abs (part c.args.mean.now c.loop-k.k) ≤ 2 ^ 26
 small c = c.requires.2 c.loop-k.k (omega arith)
@@ -34,8 +35,8 @@ loop-k-preserved c =
     let l = c.loop-k in
     let a = c.args in
     let told = c.four_bytes.ensures in (
-      put_next 4 5 a.buf.now a.mean.now l.k l.invariant.0 c.put_four.ensures
-          (omega arith) (omega (arith, told, ap (complement 4) (held (goal.at.loop-k-preserved c).In-loop-k))) (omega arith),
+      put_next a.buf.now a.mean.now l.k l.invariant.0 c.put_four.ensures
+          (omega arith) (omega (arith, told, ap four_bytes (held (goal.at.loop-k-preserved c).In-loop-k))) (omega arith),
       omega arith,
       omega arith,
     )
@@ -47,4 +48,4 @@ pub returns : goal.returns
 returns c =
     let a = c.args in
     let all : c.loop-k.k ≡ parts a.last = omega arith in
-    c.loop-k.invariant.0 ∙ ap (with_numbers 4 5 a.buf.now a.mean.now) all
+    c.loop-k.invariant.0 ∙ ap (with_parts a.buf.now a.mean.now) all

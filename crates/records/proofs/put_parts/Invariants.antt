@@ -3,11 +3,11 @@
 use Prim.Native.Nat.{◌-◌, ◌≤◌}
 use mathlib.Core.Path.{◌≡◌}
 use lib.ListN.{length}
-use Rattle.laws.specs.NumberBytes.{with_numbers}
+use Rattle.records.specs.Records.{with_parts}
 use Rattle.records.proofs.put_parts.Given as goal
 
 abbrev pub invariant-loop-k : goal.invariant-loop-k
-invariant-loop-k l = (l.buf ≡ with_numbers 4 5 l.initial.buf l.mean l.k) × (length l.buf ≡ length l.initial.buf) × (l.k ≤ l.n)
+invariant-loop-k l = (l.buf ≡ with_parts l.initial.buf l.mean l.k) × (length l.buf ≡ length l.initial.buf) × (l.k ≤ l.n)
 
 abbrev pub decreases-loop-k : goal.decreases-loop-k
 decreases-loop-k l = l.n - l.k
