@@ -37,9 +37,9 @@ bounds-bytes-at c = omega (arith, spelt_length (digits c), (digits c).from, room
 pub returns-then-z-lt0 : goal.returns-then-z-lt0
 unfolding signed_decimal
 returns-then-z-lt0 c =
-    subst (λ t. Spelt t (record { bytes = set (spelt c).bytes-1 ((spelt c).from - 1) minus; from = (spelt c).from - 1 }))
+    subst (λ t. Spelt t (record { bytes = set (spelt c).bytes ((spelt c).from - 1) minus; from = (spelt c).from - 1 }))
     (sym (ap signed_decimal (below c).is))
-    (signed_spelt (spelt c).bytes-1 (spelt c).from (digits c) (room c))
+    (signed_spelt (spelt c).bytes (spelt c).from (digits c) (room c))
 
 pub returns : goal.returns
 unfolding signed_decimal
