@@ -1,6 +1,6 @@
 -- The lines of the page, one behind the other. The invariant: the buffer is as long as it was, and the lines of the parts passed stand
 -- at its front.
-use Prim.Native.Nat.{ℕ, ◌-◌, ◌<◌}
+use Prim.Native.Nat.{ℕ, ◌<◌}
 use mathlib.Core.Path.{◌≡◌, refl, sym, ap, subst, ◌∙◌}
 use mathlib.Core.List.{List, ◌++◌}
 use native.Mathlib.Omega.{arith}
