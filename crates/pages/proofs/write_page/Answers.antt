@@ -21,27 +21,9 @@ use Rattle.pages.proofs.write_page.Goals as goal
 stored_ticks : (J : ℕ) (μ : List ℤ) (D : List ℕ) → PageInColumns J μ D → (k : ℕ) → k < parts J → stored (part μ k) ≡ part μ k
 stored_ticks J μ D h k below = read (part μ k) (omega (arith, h.means k below))
 
-pub overflow_mul-count : goal.overflow_mul-count
-overflow_mul-count c = record { fits = omega (arith, c.requires.fits.years) }
-
-pub overflow_add-count : goal.overflow_add-count
-overflow_add-count c = record { fits = omega (arith, c.requires.fits.years) }
-
 pub loop-k-init : goal.loop-k-init
 unfolding lines
 loop-k-init c = (refl, omega arith, nothing _ _ (omega arith))
-
-pub offset_bounds-mean-k : goal.offset_bounds-mean-k
-offset_bounds-mean-k c = record { fits = omega (arith, c.requires.fits.years) }
-
-pub bounds-mean-k : goal.bounds-mean-k
-bounds-mean-k c = omega (arith, c.requires.fits.years)
-
-pub offset_bounds-own-k : goal.offset_bounds-own-k
-offset_bounds-own-k c = record { fits = omega (arith, c.requires.fits.years) }
-
-pub bounds-own-k : goal.bounds-own-k
-bounds-own-k c = omega (arith, c.requires.fits.years)
 
 pub put_line-end-requires : goal.put_line-end-requires
 put_line-end-requires c =
@@ -56,9 +38,6 @@ put_line-end-requires c =
           (in_columns _ _ _ c.requires.fits l.k below);
     }
 
-pub overflow_add-k : goal.overflow_add-k
-overflow_add-k c = record { fits = omega (arith, c.requires.fits.years) }
-
 pub loop-k-preserved : goal.loop-k-preserved
 loop-k-preserved c =
     let l = c.loop-k in
@@ -70,9 +49,6 @@ loop-k-preserved c =
       omega arith,
       in_words (lines_next _ l.k) (both l.invariant.2 l.invariant.0 (in_words same line.ensures)),
     )
-
-pub shape_of-buf : goal.shape_of-buf
-shape_of-buf c = c.loop-k.invariant.0
 
 pub returns : goal.returns
 returns c =

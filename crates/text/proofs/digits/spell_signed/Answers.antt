@@ -7,7 +7,7 @@ use lib.ListN.{set}
 use mir.Facts.{to_z-of_z}
 use Rattle.integers.specs.Bits.{Negative, negative, nonnegative}
 use Rattle.definitions.specs.Text.{minus, decimal, signed_decimal}
-use Rattle.text.specs.Digits.{Spelt, signed_spelt, room_for_sign, spelt_length}
+use Rattle.text.specs.Digits.{Spelt, signed_spelt, room_for_sign}
 use Rattle.text.specs.declared.digits.Digits.{Digits}
 use Rattle.text.proofs.digits.spell_signed.Goals as goal
 use Rattle.text.proofs.digits.spell_signed.Goals.{Then-z-lt0}
@@ -30,11 +30,6 @@ module _ (c : Then-z-lt0) where
 
 pub overflow_sub-at : goal.overflow_sub-at
 overflow_sub-at c = room (goal.at.overflow_sub-at c).Then-z-lt0
-
-pub bounds-bytes-at : goal.bounds-bytes-at
-bounds-bytes-at c =
-    let n = (goal.at.bounds-bytes-at c).Then-z-lt0 in
-    omega (arith, spelt_length (digits n), (digits n).from, room n)
 
 pub returns-then-z-lt0 : goal.returns-then-z-lt0
 unfolding signed_decimal
