@@ -106,9 +106,6 @@ offset_bounds-after-k c = omega (arith, index_below c.requires)
 pub bounds-after-k : goal.bounds-after-k
 bounds-after-k c = omega (arith, index_below c.requires)
 
-pub nonzero_div-diagonal : goal.nonzero_div-diagonal
-nonzero_div-diagonal c = let h = c.requires in (omega arith, fits (half h) (half_fits h))
-
 pub offset_bounds-after-k-2 : goal.offset_bounds-after-k-2
 offset_bounds-after-k-2 c = omega (arith, index_below c.requires)
 

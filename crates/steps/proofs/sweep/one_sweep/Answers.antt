@@ -9,8 +9,5 @@ overflow_mul-last c = record { fits = omega (arith, years_few c.requires) }
 pub overflow_add-last : goal.overflow_add-last
 overflow_add-last c = record { fits = omega (arith, years_few c.requires) }
 
-pub sweep_from-requires : goal.sweep_from-requires
-sweep_from-requires c = record { of_system = c.requires; few = omega arith }
-
 pub returns : goal.returns
 returns c = swept_all (omega arith) (omega arith) c.sweep_from.ensures

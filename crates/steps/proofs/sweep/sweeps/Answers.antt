@@ -8,7 +8,7 @@ use Rattle.steps.proofs.sweep.sweeps.Goals.{Start}
 
 -- the figures that are lent
 abbrev F : Start → Figures
-F s = figures_at s.args.last s.args.closeness s.args.own.now s.args.matrix.now s.args.-right-hand.now
+F s = figures_at s.args.last s.args.closeness s.args.own.now s.args.matrix.now s.args._right_hand.now
 
 pub passes-passed-requires : goal.passes-passed-requires
 passes-passed-requires c = own_fits (F (goal.at.passes-passed-requires c).Start) c.requires.fitting

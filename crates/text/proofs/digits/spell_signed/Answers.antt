@@ -7,13 +7,13 @@ use lib.ListN.{set}
 use mir.Facts.{to_z-of_z}
 use Rattle.integers.specs.Bits.{Negative, negative, nonnegative}
 use Rattle.definitions.specs.Text.{minus, decimal, signed_decimal}
-use Rattle.text.specs.Digits.{Spelt, signed_spelt, room_for_sign, spelt_length}
+use Rattle.text.specs.Digits.{Spelt, signed_spelt, room_for_sign}
 use Rattle.text.specs.declared.digits.Digits.{Digits}
 use Rattle.text.proofs.digits.spell_signed.Goals as goal
-use Rattle.text.proofs.digits.spell_signed.Goals.{After-struct_known-1}
+use Rattle.text.proofs.digits.spell_signed.Goals.{Then-z-lt0}
 
 -- below 0 the size is spelt, which leaves room for a sign
-module _ (c : After-struct_known-1) where
+module _ (c : Then-z-lt0) where
   abbrev spelt : Digits
   spelt = c.spell-spelt.result
 
@@ -29,17 +29,15 @@ module _ (c : After-struct_known-1) where
   room = room_for_sign (suc below.below) (omega (arith, below.small)) digits
 
 pub overflow_sub-at : goal.overflow_sub-at
-overflow_sub-at c = room c
-
-pub bounds-bytes-at : goal.bounds-bytes-at
-bounds-bytes-at c = omega (arith, spelt_length (digits c), (digits c).from, room c)
+overflow_sub-at c = room (goal.at.overflow_sub-at c).Then-z-lt0
 
 pub returns-then-z-lt0 : goal.returns-then-z-lt0
 unfolding signed_decimal
 returns-then-z-lt0 c =
-    subst (λ t. Spelt t (record { bytes = set (spelt c).bytes-1 ((spelt c).from - 1) minus; from = (spelt c).from - 1 }))
-    (sym (ap signed_decimal (below c).is))
-    (signed_spelt (spelt c).bytes-1 (spelt c).from (digits c) (room c))
+    let n = (goal.at.returns-then-z-lt0 c).Then-z-lt0 in
+    subst (λ t. Spelt t (record { bytes = set (spelt n).bytes ((spelt n).from - 1) minus; from = (spelt n).from - 1 }))
+    (sym (ap signed_decimal (below n).is))
+    (signed_spelt (spelt n).bytes (spelt n).from (digits n) (room n))
 
 pub returns : goal.returns
 unfolding signed_decimal

@@ -1,6 +1,6 @@
 -- What `put` leaves at the page's front is what was there and the text, as far as the page goes. The invariant: the page is as long
 -- as it was, its front is what was there and the bytes passed, and behind that nothing moved.
-use Prim.Native.Nat.{ℕ, ◌+◌, ◌≤◌, ◌<◌, ◌-◌}
+use Prim.Native.Nat.{ℕ, ◌+◌, ◌≤◌, ◌<◌}
 use mathlib.Core.Path.{◌≡◌, refl, sym, ap, ◌∙◌}
 use mathlib.Core.List.{List, [], ◌∷◌, ◌++◌, append-nil, append_assoc}
 use native.Mathlib.Numerals.{add-one}
@@ -49,8 +49,7 @@ returns-then-page-end c =
 
 pub loop-i-preserved : goal.loop-i-preserved
 loop-i-preserved c =
-    let l = c.loop-i in
-    (
+    let l = c.loop-i in (
       simp length-set l.invariant.0,
       omega arith,
       omega arith,

@@ -7,4 +7,4 @@ pub returns : goal.returns
 returns c =
     let named = c.put-named in
     let counted = c.put_decimal-counted in
-    both (both named.ensures named.auto.0 counted.ensures) (counted.auto.0 ∙ named.auto.0) c.put.ensures
+    both (both named.ensures named.auto.page counted.ensures) (counted.auto.page ∙ named.auto.page) c.put.ensures

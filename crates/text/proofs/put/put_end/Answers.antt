@@ -9,5 +9,5 @@ use Rattle.text.proofs.put.put_end.Goals as goal
 pub returns : goal.returns
 returns c =
     let from = c.args.from in
-    let bytes = c.args.t3 in
+    let bytes = c.args.bytes in
     in_words (take_all (20 - from) (drop from bytes) (omega (arith, length-drop from bytes, c.requires.long))) c.put.ensures

@@ -10,4 +10,4 @@ unfolding ascii tab_from
 returns c =
     let named = c.put-named in
     let numbered = c.put_decimal-numbered in
-    both (both named.ensures named.auto.0 numbered.ensures) (numbered.auto.0 ∙ named.auto.0) c.put_count.ensures
+    both (both named.ensures named.auto.page numbered.ensures) (numbered.auto.page ∙ named.auto.page) c.put_count.ensures
