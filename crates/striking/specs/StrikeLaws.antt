@@ -75,11 +75,14 @@ module _ (d : Step) (s : Held) (o : Observations) where
       → struck_in J p ≡ marks_of J more → mean_of t.figures.last t.mean ≡ (observed_in J o).prior_means → t.total ≡ 0
       → Strikes d s o Struck t p
   unfolding strike_call figures_of D.figures_from
-  strikes_done h c t p fits figures observed marks mean total = let e = state_of_held s h in record {
-    answer = rw (e, c) refl;
-    state = rw (e, c, state_of_held t fits, figures, observed, marks, mean, total) refl;
-    same = λ number place refused. absurd (struck_refused refused);
-  }
+  strikes_done h c t p fits figures observed marks mean total =
+      let e = state_of_held s h in
+      let last = ap (λ (F : D.Figures). F.last) figures in
+      record {
+        answer = rw (e, c) refl;
+        state = rw (e, c, state_of_held t fits, mean, total, figures, last, observed, marks) refl;
+        same = λ number place refused. absurd (struck_refused refused);
+      }
 
 -- ---- a session that is open, and its marks inside their limits
 

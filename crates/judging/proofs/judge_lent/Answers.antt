@@ -63,12 +63,12 @@ residues-tested-requires-2 c =
     asks_residues (framed (goal.at.residues-tested-requires-2 c).Else-not-frame_fits) (mean_inside _ _ (clear_record in_default) (parsed_mean in_default))
 
 pub returns-then-not-tested-2 : goal.returns-then-not-tested-2
-returns-then-not-tested-2 c = judges_closed _ _ (λ h. c.residues-tested-2.ensures.fit.when_no (not_yes c.if-not-tested-2.true) (rows h))
+returns-then-not-tested-2 c = judges_closed _ _ (λ h. c.residues-tested-2.ensures.fit.when_no c.if-not-tested-2.true (rows h))
 
 -- a file is open
 module _ (c : Else-not-tested-2) where
   open_file : Fits (S c.before.before.before.before.before.before.before.before.before.before)
-  open_file = fits (framed c.before.before.before.before.before.before.before) (c.residues-tested-2.ensures.fit.when_yes (not_no c.if-not-tested-2.false))
+  open_file = fits (c.frame_fits.ensures.when_yes c.if-not-frame_fits.false) (c.residues-tested-2.ensures.fit.when_yes c.if-not-tested-2.false)
 
 pub test-judgement-requires : goal.test-judgement-requires
 test-judgement-requires c = own_fits (S (goal.at.test-judgement-requires c).Start).figures (open_file (goal.at.test-judgement-requires c).Else-not-tested-2).fitting
@@ -80,8 +80,8 @@ module _ (c : After-test-judgement) where
 
   verdict : judgement_of c.test-judgement.result ≡ judgement_of_lem (D.mean_of c.args.last c.args.lent.now)
   verdict =
-      judged (S c.before.before.before.before.before.before.before.before.before.before.before.before).figures _ _ (c.residues-tested-2.ensures.are (not_no c.if-not-tested-2.true)) c.test-judgement.ensures
-      ∙ ap judgement_of_lem (mean_is _ _ (clear_record c.before.before.before.before.before.before) (parsed_mean c.before.before.before.before.before.before))
+      judged (S c.before.before.before.before.before.before.before.before.before.before.before.before).figures _ _ (c.residues-tested-2.ensures.are c.if-not-tested-2.false) c.test-judgement.ensures
+      ∙ ap judgement_of_lem (mean_is _ _ (passed c.parse-parsed.ensures.checked c.in_default.is) (c.parse-parsed.ensures.is (ap told c.in_default.is)))
 
 pub returns-in-Passed : goal.returns-in-Passed
 returns-in-Passed c =

@@ -55,8 +55,12 @@ observe-requires c =
     let after_last_year_last = (goal.at.observe-requires c).After-last_year-last in
     file_accepted (bytes after_last_year_last) (clear_file after_last_year_last)
 
--- what is c
+-- what is observed
 module _ (c : After-observe) where
+  -- its checks
+  cleared : file_check c.args.file.now ≡ clear
+  cleared = passed c.check_file-checked.ensures c.in_default.is
+
   abbrev ticks : List ℤ
   ticks = c.observe.new.ticks
 
@@ -70,10 +74,10 @@ module _ (c : After-observe) where
   struck = c.observe.new.struck
 
   asked : OfObservations ticks weights c.last_year-last.result
-  asked = subst (OfObservations ticks weights) (sym (year c.before.before.before.before.before)) (of_observations (bytes c.before.before.before.before.before) (clear_file c.before.before.before.before.before) c.observe.ensures)
+  asked = subst (OfObservations ticks weights) (sym c.last_year-last.ensures) (of_observations c.args.file.now cleared c.observe.ensures)
 
   asked_means : OfMeans ticks c.last_year-last.result
-  asked_means = subst (OfMeans ticks) (sym (year c.before.before.before.before.before)) (of_means (bytes c.before.before.before.before.before) (clear_file c.before.before.before.before.before) c.observe.ensures)
+  asked_means = subst (OfMeans ticks) (sym c.last_year-last.ensures) (of_means c.args.file.now cleared c.observe.ensures)
 
 pub figures_in-requires : goal.figures_in-requires
 figures_in-requires c = asked (goal.at.figures_in-requires c).After-observe
@@ -97,7 +101,7 @@ module _ (c : After-start_mean) where
 
   -- with J and the closeness
   abbrev after : ℕ → ℕ → Held
-  after J e = let F = c.figures_in.new in held_at J e 0 F.0 F.1.0 F.1.1.0 c.start_mean.new.mean
+  after J e = let F = c.figures_in.new in held_at J e 0 F.own F.matrix F.right_hand c.start_mean.new.mean
 
   abbrev before : Observations
   before =
@@ -109,7 +113,7 @@ module _ (c : After-start_mean) where
   opened =
       let F = c.figures_in.new in
       done file (clear_file after_last_year_last) c.observe.ensures
-      (subst (λ J. FiguresOf (ticks after_observe) (weights after_observe) (struck after_observe) J F.0 F.1.0 F.1.1.0) (year after_last_year_last) c.figures_in.ensures)
+      (subst (λ J. FiguresOf (ticks after_observe) (weights after_observe) (struck after_observe) J F.own F.matrix F.right_hand) (year after_last_year_last) c.figures_in.ensures)
       (subst (λ J. PriorMeans (ticks after_observe) J c.start_mean.new.mean) (year after_last_year_last) c.start_mean.ensures)
       (S start) before (closed (goal.at.closeness_of-requires c).Else-is_open)
 

@@ -24,22 +24,25 @@ module _ (c : Start) where
 
 pub returns-in-Refuses : goal.returns-in-Refuses
 returns-in-Refuses c weights struck =
+    let start = (goal.at.returns-in-Refuses c).Start in
     projects_refused (o start weights struck) (s start) c.args.year c.check_passing-checked.ensures c.in-Refuses.is
 
 -- a file is open, and the mean that is held passes
 module _ (c : In_default) where
-  open_file : Fits (s c.before.before.before)
+  open_file : Fits (s c.before.before)
   open_file = c.check_passing-checked.ensures.fits c.in_default.is
 
-  passing : held_passes (s c.before.before.before) ≡ true
+  passing : held_passes (s c.before.before) ≡ true
   passing = c.check_passing-checked.ensures.passing c.in_default.is
 
 pub returns-then-year-lt1 : goal.returns-then-year-lt1
 returns-then-year-lt1 c weights struck =
+    let in_default = (goal.at.returns-then-year-lt1 c).In_default in
     projects_before (o (goal.at.returns-then-year-lt1 c).Start weights struck) _ _ (open_file in_default) (passing in_default) c.if-year-lt1.true
 
 pub returns-then-last-year : goal.returns-then-last-year
 returns-then-last-year c weights struck =
+    let in_default = (goal.at.returns-then-last-year c).In_default in
     projects_behind (o (goal.at.returns-then-last-year c).Start weights struck) _ _ (open_file in_default) (passing in_default) c.if-last-year.true
 
 pub central_ultimate-found-requires : goal.central_ultimate-found-requires
@@ -55,5 +58,6 @@ central_ultimate-found-requires c =
 pub returns : goal.returns
 unfolding figures_of
 returns c weights struck =
+    let in_default = (goal.at.returns c).In_default in
     projects_central (o (goal.at.returns c).Start weights struck) _ _ (open_file in_default) (passing in_default)
     (omega (arith, c.if-year-lt1.false)) (omega (arith, c.if-last-year.false)) (c.central_ultimate-found.ensures.is weights struck)

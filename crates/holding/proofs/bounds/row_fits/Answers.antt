@@ -32,7 +32,7 @@ offset_bounds-matrix-row c = omega (arith, place c)
 pub bounds-matrix-row : goal.bounds-matrix-row
 bounds-matrix-row c = place c
 
--- the entry, as it is c
+-- the entry, as it is read
 module _ (c : After-entry_fits) where
   abbrev A : List ℤ
   A = c.args.matrix.now

@@ -64,15 +64,15 @@ side_of-incurred-requires c = let h = c.requires in record {
 
 -- both sides
 module _ (c : After-side_of-incurred) where
-  abbrev after_row_start : After-row_start
-  after_row_start = (goal.at.weighted-requires c).After-row_start
+  abbrev row_start_done : After-row_start
+  row_start_done = (goal.at.weighted-requires c).After-row_start
 
   paid_side : SideOf c.args.mean.now c.args.ticks.now c.args.variances.now
-      (row_start (J after_row_start) c.args.year + k after_row_start) (k after_row_start + 1) c.args.year c.side_of-paid.result
-  paid_side = side_at (cell_is after_row_start) c.side_of-paid.ensures
+      (row_start (J row_start_done) c.args.year + k row_start_done) (k row_start_done + 1) c.args.year c.side_of-paid.result
+  paid_side = side_at (cell_is row_start_done) c.side_of-paid.ensures
 
   incurred_side : SideOf c.args.mean.now c.args.ticks.now c.args.variances.now
-      (cells (J after_row_start) + (row_start (J after_row_start) c.args.year + k after_row_start)) (J after_row_start + 1 + k after_row_start) c.args.year
+      (cells (J row_start_done) + (row_start (J row_start_done) c.args.year + k row_start_done)) (J row_start_done + 1 + k row_start_done) c.args.year
       c.side_of-incurred.result
   incurred_side = side_at (incurred_cell (goal.at.weighted-requires c).After-cells_of) c.side_of-incurred.ensures
 

@@ -1,5 +1,5 @@
 -- `variance_sum` meets its contract. The loop's invariant: the total is that of the first m variances.
-use Prim.Native.Nat.{ℕ, ◌+◌, ◌-◌, ◌^◌, ◌<◌}
+use Prim.Native.Nat.{ℕ, ◌+◌, ◌^◌, ◌<◌}
 use mathlib.Core.Path.{◌≡◌, sym, ap, ap₂, ◌∙◌}
 use native.Mathlib.Omega.{arith}
 use Rattle.integers.specs.Total.{total_zero, total_next}

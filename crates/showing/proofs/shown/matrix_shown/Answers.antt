@@ -1,5 +1,5 @@
 -- `shown::matrix_shown` meets its contract. The loop's invariant: the rows so far fit, and are put in both halves.
-use Prim.Native.Nat.{◌*◌, ◌-◌, ◌<◌}
+use Prim.Native.Nat.{◌*◌, ◌<◌}
 use mathlib.Core.Path.{◌≡◌, refl, sym, subst}
 use native.Mathlib.Omega.{arith}
 use Rattle.chain.specs.Residues.{RowFits, RowsFit}

@@ -1,5 +1,5 @@
 -- `shown::own_shown` meets its contract. The loop's invariant: the parts passed have their own weights, and the rest are 0.
-use Prim.Native.Nat.{◌-◌, ◌<◌}
+use Prim.Native.Nat.{◌<◌}
 use mathlib.Core.Path.{refl}
 use native.Mathlib.Omega.{arith}
 use Rattle.laws.specs.Filled.{filled_none, filled_next, filled_to}

@@ -1,7 +1,6 @@
 -- `shown::parts_shown` meets its contract: a session fits exactly if its frame and its rows do.
 use mathlib.Core.Path.{refl, ◌∙◌}
 use native.Mathlib.Omega.{arith}
-use Rattle.chain.specs.Decides.{not_yes, not_no}
 use Rattle.holding.specs.State.{Held, held_at}
 use Rattle.holding.specs.Fitted.{Framed, fits, frame, rows}
 use Rattle.showing.specs.Mirrored.{mirrored_none, mirrored_is}
@@ -16,13 +15,13 @@ pub returns-then-not-framed : goal.returns-then-not-framed
 returns-then-not-framed c =
     record {
       few = omega arith;
-      all = λ h. absurd (c.frame_fits-framed.ensures.when_no (not_yes c.if-not-framed.true) (frame h));
+      all = λ h. absurd (c.frame_fits-framed.ensures.when_no c.if-not-framed.true (frame h));
       none = λ _. refl;
       is = c.requires.empty ∙ mirrored_is 0 (mirrored_none c.args.matrix.now);
     }
 
 framed : (c : Else-not-framed) → Framed (S (goal.at.overflow_mul-last c).Start)
-framed c = c.frame_fits-framed.ensures.when_yes (not_no c.if-not-framed.false)
+framed c = c.frame_fits-framed.ensures.when_yes c.if-not-framed.false
 
 pub overflow_mul-last : goal.overflow_mul-last
 overflow_mul-last c = omega (arith, (framed c).years)

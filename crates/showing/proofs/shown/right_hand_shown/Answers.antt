@@ -1,5 +1,5 @@
 -- `shown::right_hand_shown` meets its contract. The loop's invariant: the parts passed have their right-hand sides, and the rest are 0.
-use Prim.Native.Nat.{◌-◌, ◌<◌}
+use Prim.Native.Nat.{◌<◌}
 use native.Mathlib.Omega.{arith}
 use lib.IntN.{pos}
 use Rattle.laws.specs.Filled.{filled_none, filled_next, filled_to}

@@ -7,7 +7,7 @@ use Rattle.striking.specs.AnewLaws.{asks_figures, asks_means}
 use Rattle.striking.proofs.anew.made_anew.Goals as goal
 use Rattle.striking.proofs.anew.made_anew.Goals.{After-weights_inside-weighed}
 
--- ticks and weights are c their limits
+-- ticks and weights are inside their limits
 module _ (c : After-weights_inside-weighed) where
   weighed : WeightsInside (parts c.args.last) c.args.weights.now c.weights_inside-weighed.result
   weighed = c.weights_inside-weighed.ensures

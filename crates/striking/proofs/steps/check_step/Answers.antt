@@ -26,7 +26,7 @@ returns-then-not-is_step c =
     let a = c.args in
     no_step a.last a.channel a.year a.column a.marks.now (channel (goal.at.returns-then-not-is_step c).Else-channel-gt1) (sym c.is_step.ensures ∙ c.if-not-is_step.true)
 
--- there is such c step
+-- there is such a step
 module _ (c : Else-not-is_step) where
   there : is_step c.args.last (step c.args.channel c.args.year c.args.column) ≡ true
   there = sym c.is_step.ensures ∙ c.if-not-is_step.false
@@ -59,11 +59,13 @@ module _ (c : After-part_of-k) where
   abbrev J : ℕ
   J = c.args.last
 
-  part_is : c.part_of.result ≡ part_of_step J (step c.args.channel c.args.year c.args.column)
-  part_is = c.part_of.ensures
+  part_is : c.part_of-k.result ≡ part_of_step J (step c.args.channel c.args.year c.args.column)
+  part_is = c.part_of-k.ensures
 
-  below : c.part_of.result < parts J
-  below = let c = c.args in omega (arith, part_is, (placed J c.channel c.year c.column (of_step (goal.at.steps_of-requires c).Else-not-is_step)).below)
+  below : c.part_of-k.result < parts J
+  below =
+      let a = c.args in
+      omega (arith, part_is, (placed J a.channel a.year a.column (of_step (goal.at.steps_of-requires c).Else-not-is_step)).below)
 
 pub steps_of-requires : goal.steps_of-requires
 steps_of-requires c = record { few = c.requires.few; below = below c }
@@ -78,27 +80,29 @@ left_of-requires c =
     }
 
 module _ (c : After-left_of) where
-  count : c.left_of.result ≡ left_beside c.args.last (mark_of c.args.last c.args.marks.now)
+  count : OfStep c.args.last c.args.channel c.args.year c.args.column → c.left_of.result ≡ left_beside c.args.last (mark_of c.args.last c.args.marks.now)
       (step c.args.channel c.args.year c.args.column)
-  count =
+  count of_step =
       c.left_of.ensures
       ∙ ap (unmarked c.args.marks.now c.part_of-k.result) c.steps_of.ensures
-      ∙ ap (λ k. unmarked c.args.marks.now k (steps_of c.args.last k)) (part_is c.before.before)
-      ∙ left_counted c.args.marks.now (of_step c.before.before.before.before.before.before.before)
+      ∙ ap (λ k. unmarked c.args.marks.now k (steps_of c.args.last k)) c.part_of-k.ensures
+      ∙ left_counted c.args.marks.now of_step
 
   unmarked_yet : mark_of c.args.last c.args.marks.now (step c.args.channel c.args.year c.args.column) ≡ false
-  unmarked_yet = sym (mark_is c.before.before.before.before.before.before) ∙ ap not (eq-eqb _ 0 c.if-marks-place_of-ne0.true)
+  unmarked_yet =
+      let a = c.args in
+      sym (ap (λ n. not (eqb (at a.marks.now n) 0)) c.place_of.ensures) ∙ ap not (eq-eqb _ 0 c.if-marks-place_of-ne0.false)
 
 pub returns-then-left_of-eq1 : goal.returns-then-left_of-eq1
 returns-then-left_of-eq1 c =
     let after_left_of = (goal.at.returns-then-left_of-eq1 c).After-left_of in
     let s = c.args in
     last_left s.last s.channel s.year s.column s.marks.now (channel (goal.at.returns-then-left_of-eq1 c).Else-channel-gt1) (there (goal.at.returns-then-left_of-eq1 c).Else-not-is_step)
-    (unmarked_yet after_left_of) (count after_left_of) c.if-left_of-eq1.true
+    (unmarked_yet after_left_of) (count after_left_of (of_step (goal.at.returns-then-left_of-eq1 c).Else-not-is_step)) c.if-left_of-eq1.true
 
 pub returns : goal.returns
 returns c =
     let after_left_of = (goal.at.returns c).After-left_of in
     let s = c.args in
     may_strike s.last s.channel s.year s.column s.marks.now (channel (goal.at.returns c).Else-channel-gt1) (there (goal.at.returns c).Else-not-is_step)
-    (unmarked_yet after_left_of) (count after_left_of) c.if-left_of-eq1.false
+    (unmarked_yet after_left_of) (count after_left_of (of_step (goal.at.returns c).Else-not-is_step)) c.if-left_of-eq1.false
