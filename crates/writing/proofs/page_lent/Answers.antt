@@ -1,0 +1,72 @@
+-- `page_lent` meets its contract: after 21, 24 and 13 the page of the mean that is held is written.
+use mathlib.Core.Path.{◌≡◌, sym, ap, subst, ◌∙◌}
+use mathlib.Core.Bool.{true}
+use mathlib.Core.List.{◌++◌}
+use native.Mathlib.Omega.{arith}
+use lib.IntN.{pos}
+use lib.ListN.{drop, get_or}
+use Rattle.definitions.specs.Words.{part}
+use Rattle.definitions.specs.Layout.{parts}
+use Rattle.definitions.specs.Matrix.{passes}
+use Rattle.definitions.specs.Page.{page_length}
+use Rattle.definitions.specs.Machine.{page_in}
+use Rattle.laws.specs.Tables.{tab_at}
+use Rattle.laws.specs.Pages.{page_cong}
+use Rattle.chain.specs.Arrays.{figures_of, mean_of}
+use Rattle.holding.specs.State.{Held, Fits, held_at}
+use Rattle.holding.specs.Fitted.{frame}
+use Rattle.writing.specs.declared.WriteAnswer.TheVariants.{Written}
+use Rattle.writing.specs.Writes.{Pages}
+use Rattle.writing.specs.WriteLaws.{writes_refused, writes_short, writes_written}
+use Rattle.writing.proofs.page_lent.Goals as goal
+use Rattle.writing.proofs.page_lent.Goals.{In_default}
+
+pub returns-in-Refuses : goal.returns-in-Refuses
+returns-in-Refuses c =
+    writes_refused page_length page_in _ _ c.check_passing-checked.ensures c.in-Refuses.is
+
+-- a file is open, and the mean that is held passes
+module _ (c : In_default) where
+  abbrev s : Held
+  s = let a = c.args in held_at a.last a.closeness a.total a.own.now a.matrix.now a.right_hand.now a.mean.now
+
+  open_file : Fits s
+  open_file = c.check_passing-checked.ensures.fits c.in_default.is
+
+  passing : passes (figures_of s.figures) (part (mean_of s.figures.last s.mean)) ≡ true
+  passing = c.check_passing-checked.ensures.passing c.in_default.is
+
+pub page_length-requires : goal.page_length-requires
+page_length-requires c = (frame (open_file c)).years
+
+pub returns-then-buffer-page_length : goal.returns-then-buffer-page_length
+returns-then-buffer-page_length c =
+    let in_default = (goal.at.returns-then-buffer-page_length c).In_default in
+    writes_short page_length page_in _ _ (open_file in_default) (passing in_default) (omega (arith, c.if-buffer-page_length.true, c.page_length.ensures))
+
+pub write_page-requires : goal.write_page-requires
+write_page-requires c =
+    let in_default = (goal.at.write_page-requires c).In_default in
+    let framed = frame (open_file in_default) in
+    record {
+      room = omega (arith, c.if-buffer-page_length.false, c.page_length.ensures);
+      fits = record {
+        years = framed.years;
+        means = (open_file in_default).inside.small;
+        weights = λ k below. omega (arith, (framed.parts_fit k below).own_to);
+      };
+    }
+
+pub returns : goal.returns
+unfolding figures_of
+returns c =
+    let in_default = (goal.at.returns c).In_default in
+    let last = (s in_default).figures.last in
+    let buffer = c.args.buffer.now in
+    let same = page_cong last (s in_default).mean (mean_of last (s in_default).mean) (s in_default).figures.own (figures_of (s in_default).figures).own
+    (λ k below. sym (tab_at (parts last) (part (s in_default).mean) k (pos 0) below))
+    (λ k below. sym (tab_at (parts last) (λ i. get_or (s in_default).figures.own i 0) k 0 below)) in
+    subst (Pages (s in_default) buffer Written)
+    (sym (c.write_page.ensures ∙ ap (λ front. front ++ drop (page_length last) buffer) same))
+    (writes_written page_length page_in (s in_default) buffer (open_file in_default) (passing in_default)
+    (omega (arith, c.if-buffer-page_length.false, c.page_length.ensures)))
