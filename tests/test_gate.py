@@ -60,6 +60,8 @@ class Steps(unittest.TestCase):
             desk.program(path, '#!{bash}\necho "ran: ${{0##*/}} $*"\n')
         for tool in TOOLS:
             desk.program(desk.tools / tool, "#!{bash}\n")
+        for name in ("listing", "board_page", "calls"):
+            desk.program(desk.root / "crates" / name / "out" / name, "#!{bash}\n")
         return desk.run("test", **variables)
 
     def lines_of(self, desk: Checkout, status: int, verdict: str = VERDICT) -> list[str]:
