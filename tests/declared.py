@@ -95,11 +95,16 @@ NAME = r"[^\s(){}:;,.]+"
 
 
 @lru_cache(maxsize=None)
-def antt_file(module: str) -> str:
-    """The file of `laws/Pinned`: in the crate's specs, or where it has only theorems in its proofs."""
+def antt_files(module: str) -> list[str]:
+    """The files of `laws/Pinned`: in the crate's specs, and where theorems of it stand apart in its proofs."""
     crate, name = module.split("/")
     names = [f"crates/{crate}/{folder}/{name}.antt" for folder in ("specs", "proofs")]
-    return next((path for path in names if path in files()), names[0])
+    return [path for path in names if path in files()] or names[:1]
+
+
+def antt_file(module: str) -> str:
+    """The one in the specs, or where all of it are theorems in the proofs."""
+    return antt_files(module)[0]
 
 
 def is_kit(module: str) -> bool:

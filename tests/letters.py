@@ -278,7 +278,7 @@ DEFINED = {
         "record { answer = written; state = holds (unstruck (file_F 1)) (mean 2 0) 7; buffer = 0 ∷ 0 ∷ 0 ∷ 0 ∷ 0 ∷ 0 ∷ 0 ∷ 0 ∷ 0 ∷ 0 ∷ "
         "0 ∷ 0 ∷ 0 ∷ 1 ∷ 128 ∷ 1 ∷ 255 ∷ 255 ∷ 255 ∷ 255 ∷ 255 ∷ 255 ∷ 128 ∷ 0 ∷ 165 ∷ 165 ∷ []; } pub residues_in_session : (machine "
         "(holds struck_F (mean 0 0) 0) (residues (record_of 1 (mean 1 1)) (replicate 24 0))).buffer ≡ number_bytes 8 0 3 (pos 65537 ∷ "
-        "pos 98305 ∷ negsuc 32767 ∷ []) | pub joint_table",
+        "pos 98305 ∷ negsuc 32767 ∷ []) | |",
     ),
     "definitions/Strikes": (
         "| pub data Step : Type 0 where step : (channel i j : ℕ) → Step | abbrev pub same_step : Step → Step → Bool | same_step (step c "

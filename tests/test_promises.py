@@ -4,7 +4,7 @@ import re
 import unittest
 
 from believed import border, contract, file_of, modules_of_contract
-from declared import ROOT, antt_file, text_of
+from declared import ROOT, antt_file, antt_files, text_of
 from letters import DEFINED
 from letters_of_contracts import PROMISED
 from letters_of_pins import SAID
@@ -214,6 +214,11 @@ def outline(text: str) -> list[str]:
     return told + [")"] * len(opened)
 
 
+def lines_of(path: str) -> str:
+    """A text in one line, with a bar before whatever stands in no module, and at the end."""
+    return " ".join(re.sub(r"\n(?=\S)|$", " | ", STRING.sub('""', without_comments(ROOT / path))).split())
+
+
 class Promises(unittest.TestCase):
     def test_contracts_at_the_border(self) -> None:
         """Each stands alone in its contract, with nothing before it that a call would have to meet."""
@@ -227,18 +232,17 @@ class Promises(unittest.TestCase):
 
     def test_what_is_pinned(self) -> None:
         for file, names in PINNED.items():
-            self.assertEqual(outline(text_of(antt_file(file))), names.split(), file)
+            self.assertEqual([name for path in antt_files(file) for name in outline(text_of(path))], names.split(), file)
 
     def test_what_is_said_to_the_letter(self) -> None:
         for file, said in (DEFINED | PROMISED | SAID).items():
-            text = STRING.sub('""', without_comments(ROOT / antt_file(file)))
-            lines = " ".join(re.sub(r"\n(?=\S)|$", " | ", text).split())  # with a bar before whatever stands in no module, and at the end
+            lines = " ".join(map(lines_of, antt_files(file)))
             for words in said:
-                self.assertIn(words, lines)
+                self.assertTrue(words in lines, f"{file}: {words}")
 
     def test_what_pins_suppose(self) -> None:
         for file in PINNED:
-            text = without_comments(ROOT / antt_file(file))
+            text = "\n".join(without_comments(ROOT / path) for path in antt_files(file))
             modules = re.findall(r"^ *module _ (.*?) where$", text, re.MULTILINE | re.DOTALL)
             self.assertEqual([" ".join(module.split()) for module in modules], [*SUPPOSED.get(file, ())], file)
             self.assertEqual(len(re.findall(r"\bmodule\b", text)), len(modules), file)
