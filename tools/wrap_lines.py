@@ -80,7 +80,8 @@ def main() -> int:
     if not sys.argv[1:]:
         print(__doc__, file=sys.stderr)
         return 2
-    for path in sorted(path for crate in sys.argv[1:] for part in ("specs", "proofs") for path in Path("crates", crate, part).glob("**/*.antt")):
+    folders = [Path("crates", crate, part) for crate in sys.argv[1:] for part in ("specs", "proofs")]
+    for path in sorted(path for folder in folders for path in folder.glob("**/*.antt")):
         lines = []
         for line in path.read_text().split("\n"):
             new = wrapped(line, limit(path, line)) if len(line) > limit(path, line) else [line]
