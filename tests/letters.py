@@ -35,11 +35,13 @@ DEFINED = {
         "(row_length (last_year s) year) (drop (row_at (last_year s) channel year) s) | abbrev pub record_length : ℕ → ℕ | "
         "record_length J = 5 + 4 * parts J | abbrev pub part_at : ℕ → ℕ | part_at k = 5 + 4 * k | abbrev pub mean_of : ℕ → Bytes → List "
         "ℤ | mean_of J r = tab_from 0 (parts J) (λ k. signed (part_at k) r) | unfoldable pub bytes_of : ℕ → ℕ → Bytes | bytes_of zero v "
-        "= [] | bytes_of (suc n) v = bytes_of n (v / 256) ++ v % 256 ∷ [] | unfoldable pub complement : ℕ → ℤ → ℕ | complement width "
-        "(pos n) = n | complement width (negsuc n) = 256 ^ width - suc n | unfoldable pub number_bytes : ℕ → ℕ → ℕ → List ℤ → Bytes | "
-        "number_bytes width k zero v = [] | number_bytes width k (suc n) v = bytes_of width (complement width (part v k)) ++ "
-        "number_bytes width (suc k) n v | abbrev pub record_of : ℕ → List ℤ → Bytes | record_of J μ = bytes_of 4 (record_length J) ++ 1 "
-        "∷ number_bytes 4 0 (parts J) μ | |",
+        "= [] | bytes_of (suc n) v = bytes_of n (v / 256) ++ v % 256 ∷ [] | unfoldable pub four_bytes : ℤ → ℕ | four_bytes (pos n) = n "
+        "| four_bytes (negsuc n) = 2 ^ 32 - suc n | unfoldable pub part_bytes : ℕ → ℕ → List ℤ → Bytes | part_bytes k zero μ = [] | "
+        "part_bytes k (suc n) μ = bytes_of 4 (four_bytes (part μ k)) ++ part_bytes (suc k) n μ | abbrev pub record_of : ℕ → List ℤ → "
+        "Bytes | record_of J μ = bytes_of 4 (record_length J) ++ 1 ∷ part_bytes 0 (parts J) μ | unfoldable pub complement : ℕ → ℤ → ℕ | "
+        "complement width (pos n) = n | complement width (negsuc n) = 256 ^ width - suc n | unfoldable pub number_bytes : ℕ → ℕ → ℕ → "
+        "List ℤ → Bytes | number_bytes width k zero v = [] | number_bytes width k (suc n) v = bytes_of width (complement width (part v "
+        "k)) ++ number_bytes width (suc k) n v | |",
     ),
     "definitions/Refusals": (
         "| pub data Check : Type 0 where clear : Check refuses : (number place : ℕ) → Check | abbrev pub unless : Bool → ℕ → ℕ → Check "
@@ -259,7 +261,7 @@ DEFINED = {
         "0)).answer ≡ refused 26 0 pub strike_last : (strike_of struck_F (step 0 1 0)).answer ≡ refused 27 0 pub strike_done : "
         "strike_of (unstruck (file_F 1)) (step 0 0 0) ≡ record { answer = struck_out; state = holds struck_F (mean 0 0) 0; buffer = [] "
         "} pub strike_refused : (strike_of struck_F (step 0 1 0)).state ≡ holds struck_F (mean 2 0) 7 pub struck_forgotten : (machine "
-        "(machine (holds struck_F (mean 2 0) 7) close).state (open-file (file_F 1))).state ≡ holds (unstruck (file_F 1)) (mean 0 0) 0 "
+        "(machine (holds struck_F (mean 2 0) 7) close).state (open_file (file_F 1))).state ≡ holds (unstruck (file_F 1)) (mean 0 0) 0 "
         "pub struck_kept : with_struck (step 0 0 0) (kept_of (unstruck (file_F 1))) ≡ kept_of struck_F pub struck_marks : (kept_of "
         "struck_F).struck ≡ (true ∷ false ∷ []) ∷ (false ∷ []) ∷ (false ∷ []) ∷ [] pub observed_zero : observed_for (unstruck (file_F "
         "1)) (mean 0 0) ≡ pos 0 ∷ pos 0 ∷ pos 0 ∷ [] pub observed_at_the_bound : observed_for (unstruck (file_F 1)) (mean 1 0) ≡ pos "
@@ -277,8 +279,8 @@ DEFINED = {
         "holds (unstruck (file_F 1)) (mean 2 0) 7; buffer = replicate 23 165; } pub residues_written : residues_of_F record_F 26 ≡ "
         "record { answer = written; state = holds (unstruck (file_F 1)) (mean 2 0) 7; buffer = 0 ∷ 0 ∷ 0 ∷ 0 ∷ 0 ∷ 0 ∷ 0 ∷ 0 ∷ 0 ∷ 0 ∷ "
         "0 ∷ 0 ∷ 0 ∷ 1 ∷ 128 ∷ 1 ∷ 255 ∷ 255 ∷ 255 ∷ 255 ∷ 255 ∷ 255 ∷ 128 ∷ 0 ∷ 165 ∷ 165 ∷ []; } pub residues_in_session : (machine "
-        "(holds struck_F (mean 0 0) 0) (residues (record_of 1 (mean 1 1)) (replicate 24 0))).buffer ≡ number_bytes 8 0 3 (pos 65537 ∷ "
-        "pos 98305 ∷ negsuc 32767 ∷ []) | |",
+        "(holds struck_F (mean 0 0) 0) (call_residues (record_of 1 (mean 1 1)) (replicate 24 0))).buffer ≡ number_bytes 8 0 3 (pos "
+        "65537 ∷ pos 98305 ∷ negsuc 32767 ∷ []) | |",
     ),
     "definitions/Strikes": (
         "| pub data Step : Type 0 where step : (channel i j : ℕ) → Step | abbrev pub same_step : Step → Step → Bool | same_step (step c "

@@ -174,7 +174,7 @@ SAID = {
     "desk/PinnedSession": (
         "| module _ (o : Observations) (s : Held) where abbrev st : State Kept st = session_state o s pub opens_all : (p : "
         "Observations) (t : Held) (file : Bytes) (r : Refusal) → Opens s o file r t p → let x : Outcome Kept = outcome in_session st "
-        "(open-file file) in (r ≡ refusal_told x.answer) × (session_state p t ≡ x.state) unfolding",
+        "(open_file file) in (r ≡ refusal_told x.answer) × (session_state p t ≡ x.state) unfolding",
         "pub judges_all : (lent : Bytes) (r : Judged) → Judges s lent r → r ≡ judge_told (outcome in_session st (judge lent)).answer "
         "judges_all",
         "pub sweeps_all : (t : Held) (n : ℕ) (r : Swept) → Sweeps s n r t → let x : Outcome Kept = outcome in_session st (sweep n) in "
