@@ -6,7 +6,8 @@
 script=${0##*/}
 crates=0           # so many are to be proved
 declare -A told=() # those that were said, so that a second run of rt does not say them again
-began=$SECONDS     # when the last of them was
+proving=''         # the one whose verdict comes next
+began=$SECONDS     # when the last of them was said
 shopt -s lastpipe  # what a loop behind a pipe sets is kept
 
 say() {
@@ -45,6 +46,7 @@ count_crates() { # NAME...
     local wanted=" $* " name needed
     crates=0
     while IFS=: read -r name needed; do
+        name=${name%% *} # a static library says so behind its name
         if [[ $wanted == *" $name "* ]]; then
             crates=$((crates + 1))
             wanted+="$needed "
@@ -52,37 +54,44 @@ count_crates() { # NAME...
     done < <(tac "$root/crates.txt")
 }
 
-# Runs rt, and says each crate as it is proved. Where rt fails, all that it said is shown. Standard input may be a file to list.
-prove() { # RT'S WORDS...
-    local line log=''
-    (cd "$root" && exec rt "$@" 2>&1 </dev/null) | while IFS= read -r line; do
+# Runs rt in a crate's folder, which proves what the crate uses first, and says each crate as it is proved. Where rt fails, all that it said
+# is shown. A program that rt runs has nothing to read, and may end as it likes: that rt runs it at all tells that it is proved.
+prove() { # CRATE RT'S WORD
+    local line log='' status=0 runs=''
+    (cd "$root/crates/$1" && exec rt "$2" 2>&1 </dev/null) | while IFS= read -r line; do
         log+=$line$'\n'
         tell_crate "$line"
-    done && return
+        [[ $line != "rt: running out/$1;"* ]] || runs=yes
+    done || status=$?
+    [ "$status" -ne 0 ] && [ -z "$runs" ] || return 0
     printf %s "$log" >&2
     return 1
 }
 
-# Proves and builds a program. What is unchanged since it was proved rt does not make again: a program that is gone loses its
-# stamp first, and one that is there gets its time here.
+# Proves and builds a program, where no gate built it since its sources changed. It gets its time here.
 make_program() { # NAME
-    local program=$root/target/bin/$1
-    [ -x "$program" ] || rm -f "$root/target/stamp/$1"
-    prove check "$1" && [ -x "$program" ] && touch "$program"
+    local built=$root/crates/$1/out/$1 program=$root/target/bin/$1
+    is_current "$built" || prove "$1" run || return 1
+    mkdir -p "${program%/*}"
+    rm -f "$program"
+    install -m 755 "$built" "$program"
 }
 
-# A library for C has no line with its time: it ends with the line of its archive.
+# Proves and builds the static library.
+make_archive() { # NAME
+    local archive=$root/target/staticlib/lib$1.a
+    prove "$1" lib || return 1
+    mkdir -p "${archive%/*}"
+    install -m 644 "$root/crates/$1/out/lib$1.a" "$archive"
+}
+
+# A crate's modules are told just before its verdict.
 tell_crate() { # A LINE OF RT
-    local name took
-    if [[ $1 =~ ^rt:\ ([a-z_]+)\ proved\ \((.*)\)$ ]]; then
-        name=${BASH_REMATCH[1]} took=${BASH_REMATCH[2]}
-    elif [[ $1 =~ ^rt:\ target/staticlib/lib([a-z_]+)\.a\  ]]; then
-        name=${BASH_REMATCH[1]} took="$((SECONDS - began)) s"
-    else
-        return 0
+    if [[ $1 =~ ^crate\ ([a-z_0-9]+):\ modules\  ]]; then
+        proving=${BASH_REMATCH[1]}
     fi
-    began=$SECONDS
-    [ -z "${told[$name]:-}" ] || return 0
-    told[$name]=said
-    say "proved $name (${took%% since*}), ${#told[@]} of $crates"
+    [[ $1 == "logic=proved "* ]] && [ -n "$proving" ] && [ -z "${told[$proving]:-}" ] || return 0
+    told[$proving]=said
+    say "proved $proving ($((SECONDS - began)) s), ${#told[@]} of $crates"
+    began=$SECONDS proving=''
 }

@@ -16,18 +16,18 @@ import re
 import sys
 from collections.abc import Iterator
 
-from declared import crates, files, files_of, folders, text_of
+from declared import crates, files, files_of, folders, is_kit, text_of
 from documents import blocks, sentences
 from resolving import Named, resolved
 
 SESSION = "session"
 PUBLIC_FUNCTION = r'^ *pub (?:extern "C" )?fn (\w+)'
-PASSED_ON = r"^pub use (\w+)(?:::\w+)+;$"
+PASSED_ON = r"^pub use (\w+)(?:::\w+)*::(?:\w+|\{[\w,\s]+\});$"
 PROGRAMS = [("crates/listing/src/main.rt", "list"), ("crates/board_page/src/main.rt", "board")]
 DOCUMENT = "docs/CLAIMS.md"
 LIST = "## What must be believed besides"
 
-WORDS_OF_CONTRACTS = {"requires", "ensures", "λ", "record", "now", "×", "→"}  # which no import gives
+WORDS_OF_CONTRACTS = {"requires", "ensures", "result", "λ", "×", "→"}  # which no import gives
 
 Function = tuple[str, str]  # the file and the name
 
@@ -76,17 +76,18 @@ def imports(path: str) -> dict[str, str]:
     """Of a Rattle file: the module behind each name that its contracts can use, operators without their blanks."""
     found = {}
     for module, names, other in re.findall(r"^ghost use (\S+?)(?:\.\{([^}]*)\}| as (\S+));", text_of(path), re.MULTILINE):
-        found |= {name.strip("_") if name.startswith("_") else name: module for name in re.findall(r"[^\s,]+", names)}
+        found |= {name.strip("◌"): module for name in re.findall(r"[^\s,]+", names)}
         found |= {other: module} if other else {}
     return found
 
 
 def words_of_contract(function: Function) -> set[str]:
-    """The names that a contract uses: no field of a record, no number, no parameter and nothing that it binds itself."""
+    """The names that a contract uses: no field of a record, no number, no parameter, no clause's name and nothing that it binds itself."""
     head, clauses = contract(function)
-    without_fields = re.sub(r"\.«?[\w-]+»?|«?[\w-]+»? = ", " ", clauses)
+    without_names = re.sub(r"\b(requires|ensures) \w+ \{", r"\1 {", clauses)
+    without_fields = re.sub(r"\.«?[\w-]+»?|«?[\w-]+»? = ", " ", without_names)
     bound = set(re.findall(r"λ (\w+)\.", clauses)) | set(re.findall(r"(\w+): ", head))
-    words = set(re.findall(r"[^\s(){}⌜⌝,;.«»]+", without_fields))
+    words = set(re.findall(r"[^\s(){},;.«»]+", without_fields))
     return {word for word in words if not word.isdigit()} - bound - WORDS_OF_CONTRACTS
 
 
@@ -99,15 +100,14 @@ def modules_of_contract(function: Function) -> set[str]:
 
 
 def file_of(module: str) -> str | None:
-    """`Rattle·holding.specs.State`, inside the crate `Rattle·holding·specs.specs.State`; None for the kit's and for types of Rattle."""
-    found = re.fullmatch(r"Rattle·(\w+)(?:·specs)?\.specs\.(\w+)", module)
-    return f"crates/{found[1]}/specs/{found[2]}.antt" if found and found[1] in crates() else None
+    """`Rattle.holding.specs.State`, or in a crate's proofs; None for the kit's and for types of Rattle."""
+    found = re.fullmatch(r"Rattle\.(\w+)\.(specs|proofs)\.(\w+)", module)
+    return f"crates/{found[1]}/{found[2]}/{found[3]}.antt" if found and not is_kit(module) else None
 
 
 def is_left_to_others(module: str) -> bool:
     """The kit's, or generated from a struct or an enum of the sources."""
-    crate = re.match(r"Rattle·(\w+)", module)
-    return not crate or crate[1] not in crates() or ".specs.declared." in module
+    return is_kit(module) or ".specs.declared." in module
 
 
 def imported_by(path: str) -> list[str]:

@@ -22,7 +22,7 @@ def complaint_of_command(text: str) -> str | None:
     """What of a command is not there."""
     program, *words = shlex.split(text)
     if program == "rt":
-        missing = None if re.search(rf"^  rt {words[0]}\b", kit_help(), re.MULTILINE) else "the kit has no such command"
+        missing = None if words[0] in kit_commands() else "the kit has no such command"
     elif program == "python3":
         missing = missing_of_python(*words)
     elif "/" in program and not files().get(program.removeprefix("./"), False):
@@ -64,5 +64,8 @@ def python_help(*words: str) -> subprocess.CompletedProcess[str]:
 
 
 @lru_cache(maxsize=None)
-def kit_help() -> str:
-    return subprocess.run(["rt", "help"], check=True, capture_output=True, text=True).stdout
+def kit_commands() -> frozenset[str]:
+    """As the kit's help lists them, `rt check|lib` as two."""
+    said = subprocess.run(["rt", "help"], capture_output=True, text=True)
+    lists = re.findall(r"^(?:usage:)? +rt ([\w|-]+)", said.stdout + said.stderr, re.MULTILINE)
+    return frozenset(name for names in lists for name in names.split("|"))

@@ -147,7 +147,7 @@ def main() -> int:
     arguments = top.parse_args()
     for name in sorted(set(PROGRAMS.values())):
         if not os.access(arguments.programs / name, os.X_OK):
-            top.error(f"no program {arguments.programs / name}: run rt check first")
+            top.error(f"no program {arguments.programs / name}: run ./build and ./run first")
     found = 0
     try:
         for line in all_complaints(arguments.programs, arguments.seed, arguments.count):

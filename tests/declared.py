@@ -50,7 +50,7 @@ def dependencies() -> dict[str, list[str]]:
     """Every crate with what it depends on, as crates.txt has it."""
     lines = (line.partition("#")[0] for line in text_of("crates.txt").splitlines())
     pairs = (line.split(":") for line in lines if line.strip())
-    return {name.strip(): needed.split() for name, needed in pairs}
+    return {head.split()[0]: needed.split() for head, needed in pairs}  # a static library says so behind its name
 
 
 @lru_cache(maxsize=None)
@@ -95,6 +95,24 @@ NAME = r"[^\s(){}:;,.]+"
 
 
 @lru_cache(maxsize=None)
+def antt_files(module: str) -> list[str]:
+    """The files of `laws/Pinned`: in the crate's specs, and where theorems of it stand apart in its proofs."""
+    crate, name = module.split("/")
+    names = [f"crates/{crate}/{folder}/{name}.antt" for folder in ("specs", "proofs")]
+    return [path for path in names if path in files()] or names[:1]
+
+
+def antt_file(module: str) -> str:
+    """The one in the specs, or where all of it are theorems in the proofs."""
+    return antt_files(module)[0]
+
+
+def is_kit(module: str) -> bool:
+    """Whether a module of antt is of no crate of the repository."""
+    return not module.startswith("Rattle.") or module.split(".")[1] not in crates()
+
+
+@lru_cache(maxsize=None)
 def antt_names(name: str) -> frozenset[str]:
     """What a file declares: definitions, laws, records with their fields, data with their constructors."""
     words = r"(?:(?:pub|abbrev|unfoldable|data|record) )*"
@@ -106,8 +124,8 @@ def kit_names() -> frozenset[str]:
     """The kit's modules that some crate imports, and the names that it imports from them."""
     found = set()
     for name in files_of(None, "", ".antt") + files_of(None, "src/", ".rt"):
-        for module, names in re.findall(r"^(?:ghost )?use ([^\s{}·]+?)\.\{(.*)\}", text_of(name), re.MULTILINE):
-            found |= {module, *names.split(", ")}
+        for module, names in re.findall(r"^(?:ghost )?use ([^\s{}]+?)\.\{(.*)\}", text_of(name), re.MULTILINE):
+            found |= {module, *names.split(", ")} if is_kit(module) else set()
     return frozenset(found)
 
 

@@ -27,7 +27,6 @@ EXCEPTIONS = {
     "file:": "a line of an edit",
     "old:": "a line of an edit",
     "new:": "a line of an edit",
-    "&[Ticks; 31]": "a form that the kit does not cover, so no source has it",
     "ValueError": "an exception of Python",
     "wheel": "a package of Python",
     "perf": "a tool of the machine",

@@ -10,9 +10,9 @@ SUPPOSED = {
     ),
     "desk/PinnedUltimate": (
         "(o : Observations) (s : Held) (year : ℕ) (r : Projected) (call : Projects o s year r)",
-        "(F : Figures) (μ : List ℤ) (count : ℕ) (some : stateOf s ≡ holds F μ count)",
-        "(f : StruckFile) (μ : List ℤ) (count : ℕ) (kept : sessionState o s ≡ holds (keptOf f) μ count) (p : passes (figuresLeft f) "
-        "(part μ) ≡ true) (from : 1 ≤ year) (to : year ≤ lastYear (f .file))",
+        "(F : Figures) (μ : List ℤ) (count : ℕ) (some : state_of s ≡ holds F μ count)",
+        "(f : StruckFile) (μ : List ℤ) (count : ℕ) (kept : session_state o s ≡ holds (kept_of f) μ count) (p : passes (figures_left f) "
+        "(part μ) ≡ true) (from : 1 ≤ year) (to : year ≤ last_year f.file)",
     ),
     "laws/Pinned": (
         "(f : StruckFile)",
@@ -25,17 +25,17 @@ SUPPOSED = {
     ),
     "laws/PinnedAmounts": (
         "(f : Bytes)",
-        "(was : isClear (upTo 1099511627776) ≡ true)",
-        "(yes-file : accepted f ≡ true)",
+        "(was : is_clear (up_to 1099511627776) ≡ true)",
+        "(yes_file : accepted f ≡ true)",
     ),
     "laws/PinnedPage": (
-        "(f : StruckFile) (admitted : Admitted f) (μ : List ℤ) (limits : (k : ℕ) → k < 2 * lastYear (f .file) + 1 → natAbs (part μ k) ≤ "
+        "(f : StruckFile) (admitted : Admitted f) (μ : List ℤ) (limits : (k : ℕ) → k < 2 * last_year f.file + 1 → nat_abs (part μ k) ≤ "
         "67108864)",
         "(k : ℕ) (below : k < 2 * J + 1)",
     ),
     "laws/PinnedPriors": (
         "(f : Bytes)",
-        "(was : isClear with-priors ≡ true)",
+        "(was : is_clear with_priors ≡ true)",
     ),
     "laws/Number16": (
         "(f : Bytes)",
@@ -51,13 +51,13 @@ SUPPOSED = {
     "laws/Columns": (
         "(n w : ℕ) (p : ℕ → ℕ) (struck : ℕ → Bool) (one : (i : ℕ) → i < n → p i ≡ cond (struck i) 0 w)",
         "(c : Chain)",
-        "(j w : ℕ) (struck : ℕ → Bool) (below : j ≤ c .last) (one : (i : ℕ) → i + j ≤ c .last → c .p i j ≡ cond (struck i) 0 w)",
-        "(j w : ℕ) (struck : ℕ → Bool) (one : (i : ℕ) → i + j < c .last → c .q i j ≡ cond (struck i) 0 w)",
+        "(j w : ℕ) (struck : ℕ → Bool) (below : j ≤ c.last) (one : (i : ℕ) → i + j ≤ c.last → c.p i j ≡ cond (struck i) 0 w)",
+        "(j w : ℕ) (struck : ℕ → Bool) (one : (i : ℕ) → i + j < c.last → c.q i j ≡ cond (struck i) 0 w)",
         "(f : Bytes) (j : ℕ)",
         "(below : j ≤ J)",
     ),
     "opening/Pinned": (
-        "(s t : Held) (o p : Observations) (f : Bytes) (none : stateOf s ≡ empty) (call : Opens s o f Opened t p)",
+        "(s t : Held) (o p : Observations) (f : Bytes) (none : state_of s ≡ empty) (call : Opens s o f Opened t p)",
     ),
     "desk/PinnedSession": (
         "(o : Observations) (s : Held)",
@@ -75,7 +75,7 @@ SUPPOSED = {
     ),
     "showing/Pinned": (
         "(s : Held) (r : Showing) (call : Shows s r)",
-        "(F : Figures) (μ : List ℤ) (count : ℕ) (some : stateOf s ≡ holds F μ count)",
+        "(F : Figures) (μ : List ℤ) (count : ℕ) (some : state_of s ≡ holds F μ count)",
         "(f : StruckFile) (μ : List ℤ) (count : ℕ) (open-file : HoldsFile s f μ count)",
     ),
     "desk/Pinned": (
@@ -85,9 +85,9 @@ SUPPOSED = {
         "(s : Held) (lent : Bytes)",
         "(r : Judged) (call : Judges s lent r)",
         "(size : ℕ → ℕ) (text : Text) (r : Refusal) (after : Bytes) (call : Writes size text s lent r after)",
-        "(F : Figures) (μ : List ℤ) (count : ℕ) (some : stateOf s ≡ holds F μ count) (p : passes F (part μ) ≡ true)",
+        "(F : Figures) (μ : List ℤ) (count : ℕ) (some : state_of s ≡ holds F μ count) (p : passes F (part μ) ≡ true)",
         "(s : Held) (r : System) (call : Shows s r)",
-        "(F : Figures) (μ : List ℤ) (count : ℕ) (some : stateOf s ≡ holds F μ count)",
+        "(F : Figures) (μ : List ℤ) (count : ℕ) (some : state_of s ≡ holds F μ count)",
         "(f : StruckFile) (μ : List ℤ) (count : ℕ) (open-file : HoldsFile s f μ count)",
         "(file : Bytes) (channel year : ℕ) (r : RowShown) (call : ShowsRow file channel year r)",
         "(f : StruckFile) (s : Held) (μ : List ℤ) (count : ℕ) (open-file : HoldsFile s f μ count)",
@@ -96,17 +96,17 @@ SUPPOSED = {
     ),
     "laws/PinnedStrikes": (
         "(f : StruckFile) (j : ℕ)",
-        "(below : j ≤ lastYear (f .file))",
+        "(below : j ≤ last_year f.file)",
         "(f : StruckFile) (i j m : ℕ) (u : ℕ → ℤ)",
         "(calls : List Call) (f : StruckFile) (μ : List ℤ) (count : ℕ) (reached : after empty calls ≡ holds f μ count)",
     ),
     "striking/Pinned": (
         "(d : Step) (s t : Held) (o p : Observations) (f : StruckFile) (μ : List ℤ) (count : ℕ) (file : Admitted f) (kept : "
-        "sessionState o s ≡ holds (keptOf f) μ count) (call : Strikes d s o Struck t p)",
+        "session_state o s ≡ holds (kept_of f) μ count) (call : Strikes d s o Struck t p)",
     ),
     "desk/PinnedStrikes": (
         "(channel i j : ℕ) (s t : Held) (o p : Observations) (r : Refusal) (call : Strikes (step channel i j) s o r t p)",
-        "(f : StruckFile) (μ : List ℤ) (count : ℕ) (kept : sessionState o s ≡ holds (keptOf f) μ count)",
+        "(f : StruckFile) (μ : List ℤ) (count : ℕ) (kept : session_state o s ≡ holds (kept_of f) μ count)",
     ),
     "laws/PinnedResidues": (
         "(f : StruckFile) (u : Vector)",
@@ -116,6 +116,6 @@ SUPPOSED = {
     ),
     "desk/PinnedResidues": (
         "(o : Observations) (s : Held) (lent before after : Bytes) (r : Refusal) (call : Weighs o s lent before r after)",
-        "(x : Kept) (μ : List ℤ) (count : ℕ) (some : sessionState o s ≡ holds x μ count)",
+        "(x : Kept) (μ : List ℤ) (count : ℕ) (some : session_state o s ≡ holds x μ count)",
     ),
 }

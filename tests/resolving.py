@@ -48,6 +48,7 @@ def path_of(text: str, named: Named) -> str | None:
     text = declared.short_folders().get(letter, letter) + slash + rest
     inside = f"crates/{named.crate}/{text}"
     names = [text.rstrip("/"), f"{text}.antt", *([inside, f"{inside}.antt"] if named.crate and "/" in text else [])]
+    names += [f"{text}.antt".replace("/specs/", "/proofs/")] if slash and len(letter) == 1 else []  # a theorem, of the crate that the letter has
     known = files().keys() | folders() | made_by_build()
     pattern = re.escape(text).replace(r"\*", "[^/]*")
     is_pattern = "*" in text and any(re.fullmatch(pattern, name) for name in files())
@@ -75,7 +76,7 @@ def among(text: str, named: Named) -> Named | None:
     path = named.path or ""
     if path.endswith(".rt"):
         return named if text in declared.rattle_items(path) else None
-    if path.endswith(".antt") and text in declared.antt_names(path):
+    if path.endswith(".antt") and any(text in declared.antt_names(name) for name in (path, twin(path)) if name in files()):
         return named
     found = modules(text, named)
     if len(found) == 1:
@@ -90,7 +91,13 @@ def modules(text: str, named: Named) -> list[str]:
     if near in files():
         return [near]
     roots = [f"/{root}/{text}.antt" for root in ("specs", "proofs")]
-    return [name for name in files_of(named.crate, "", ".antt") if any(name.endswith(root) for root in roots)]
+    found = [name for name in files_of(named.crate, "", ".antt") if any(name.endswith(root) for root in roots)]
+    return [name for name in found if "/specs/" in name or twin(name) not in found]
+
+
+def twin(path: str) -> str:
+    """Where the theorems of a module of specs stand, or what the theorems of a module of proofs are about."""
+    return re.sub(r"/(specs|proofs)/(?=\w+\.antt$)", lambda found: "/proofs/" if found[1] == "specs" else "/specs/", path)
 
 
 def is_in_crate(text: str, crate: str | None) -> bool:

@@ -37,7 +37,7 @@ def complaints() -> Iterator[str]:
 def main() -> int:
     for program in OPTIONS:
         if not (ROOT / "target" / "bin" / program).is_file():
-            print(f"tests/run_vectors.py: no target/bin/{program}: run rt check first", file=sys.stderr)
+            print(f"tests/run_vectors.py: no target/bin/{program}: run ./build and ./run first", file=sys.stderr)
             return 2
     found = list(complaints())
     for said in found:

@@ -28,7 +28,7 @@ def split(parameters: str) -> list[str]:
 
 def calls_of_rattle() -> dict[str, Call]:
     found = re.findall(r"pub extern \"C\" fn (\w+)(?:<'a>)?\((.*?)\)(?: -> (\w+))?\n", SOURCES, re.DOTALL)
-    structs = dict(re.findall(r"#\[repr\(C\)\]\npub struct (\w+) \{\n(.*?)\}", SOURCES, re.DOTALL))
+    structs = dict(re.findall(r"#\[repr\(C\)\]\n(?:#\[[^\n]*\]\n)*pub struct (\w+) \{\n(.*?)\}", SOURCES, re.DOTALL))
     fields = {name: [(field, rattle_kind(kind)) for field, kind in re.findall(r"pub (\w+): ([^,]+),", structs[name])] for name in structs}
     return {name: (rattle_parameters(parameters), numbers(answer, fields)) for name, parameters, answer in found}
 
@@ -132,7 +132,7 @@ class Border(unittest.TestCase):
 
     def test_there_are_calls(self) -> None:
         self.assertGreaterEqual(len(calls_of_rattle()), 9)
-        self.assertEqual(len(calls_of_rattle()), SOURCES.count("#[no_mangle]"))
+        self.assertEqual(len(calls_of_rattle()), SOURCES.count("#[unsafe(no_mangle)]"))
 
     def test_what_the_header_lends(self) -> None:
         """Each field of a session stands at the place of its name, and what else a call is given behind them."""

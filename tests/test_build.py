@@ -11,7 +11,7 @@ from declared import made_by_build, text_of
 VERSION = re.search(r'^#define DESK_VERSION "(.+)"$', text_of("include/desk.h"), re.MULTILINE)[1]
 LOADED = f"libdesk.so.{VERSION.split('.')[0]}"
 LINKS = {"libdesk.so": LOADED, LOADED: f"libdesk.so.{VERSION}"}
-BOTH = ["staticlib desk", "check calls"]
+BOTH = ["desk lib", "calls run"]
 
 
 def where(desk: Checkout) -> str:
@@ -41,14 +41,24 @@ class Built(unittest.TestCase):
             self.assertEqual(desk.calls_of_rt(), BOTH)
 
     def test_makes_again_what_is_missing_or_older_than_a_source(self) -> None:
-        for name, made in (("target/staticlib/libdesk.a", BOTH[:1]), ("target/bin/calls", BOTH[1:])):
+        for name, built, made in (
+            ("target/staticlib/libdesk.a", "crates/desk/out/libdesk.a", BOTH[:1]), ("target/bin/calls", "crates/calls/out/calls", BOTH[1:]),
+        ):
             with checkout() as desk:
                 desk.run("build")
-                desk.age(name)
+                desk.age(name, built)
                 desk.run("build")
                 (desk.root / name).unlink()
+                (desk.root / built).unlink()
                 self.assertEqual(desk.run("build").stdout, where(desk))
                 self.assertEqual(desk.calls_of_rt(), BOTH + made + made)
+
+    def test_takes_a_program_that_the_gate_built(self) -> None:
+        with checkout() as desk:
+            desk.run("build")
+            (desk.root / "target/bin/calls").unlink()
+            self.assertEqual(desk.run("build").stdout, where(desk))
+            self.assertEqual(desk.calls_of_rt(), BOTH)
 
     def test_links_again_without_a_proof(self) -> None:
         for spoil in ("libdesk.so", LOADED, f"libdesk.so.{VERSION}"):

@@ -17,7 +17,7 @@ TABLE = SOURCES["row_starts/src/lib.rt"]
 class RowStarts(unittest.TestCase):
     def test_of_the_source(self) -> None:
         [(count, written)] = re.findall(r"^const ROW_STARTS: \[u8; (\d+)\] = \[\n(.*?)^\];", TABLE, re.MULTILINE | re.DOTALL)
-        entries = [int(number) for number in re.findall(r"^ +(\d+),$", written, re.MULTILINE)]
+        entries = [int(number) for number in re.findall(r"\d+", re.sub(r"//.*", "", written))]
         self.assertEqual((int(count), len(entries)), (256, 256))
         for last in range(16):
             for year in range(16):
@@ -25,10 +25,11 @@ class RowStarts(unittest.TestCase):
 
     def test_promised_for_every_j(self) -> None:
         contract = re.search(r"pub fn starts_of\(last: u8\) -> \[usize; 16\]\n(.*?)\{\n", TABLE, re.DOTALL)[1]
-        self.assertEqual(" ".join(contract.split()), "requires { ⌜ last ≤ 15 ⌝ } ensures { λ r. ⌜ Starts last r ⌝ }")
+        self.assertEqual(" ".join(contract.split()), "requires { last ≤ 15 } ensures { Starts last result }")
 
     def test_nothing_else_promises_a_start(self) -> None:
-        self.assertEqual([name for name, text in SOURCES.items() if re.search(r"\browStart\b", text)], ["row_starts/src/lib.rt"])
+        imported = re.compile(r"^ghost use .*\brow_start\b|\.row_start\b", re.MULTILINE)  # what a clause can speak of
+        self.assertEqual([name for name, text in SOURCES.items() if imported.search(text)], ["row_starts/src/lib.rt"])
         users = {name: re.findall(r"^use row_starts::(\w+);", text, re.MULTILINE) for name, text in SOURCES.items()}
         self.assertEqual(
             {name: found for name, found in users.items() if found},

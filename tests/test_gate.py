@@ -16,6 +16,7 @@ RT = """#!{bash}
 [ "$1" != version ] || {{ echo "{pinned}"; exit; }}
 [ "$1" = ci ] || exit 0
 echo "ran: rt ci"
+echo "rt: ok; handles allowed: none; must-fail edits: 9 refused${{BAD-}}; every proof was done in this run"
 echo "${{VERDICT}}"
 exit "${{STATUS}}"
 """
@@ -50,8 +51,8 @@ class Gate(unittest.TestCase):
 
 
 class Steps(unittest.TestCase):
-    def lines_of(self, desk: Checkout, status: int, verdict: str = VERDICT) -> list[str]:
-        """What ./test prints where every command that it runs prints that it ran."""
+    def done_with(self, desk: Checkout, **variables: str) -> subprocess.CompletedProcess[str]:
+        """./test where every command that it runs prints that it ran."""
         for tool in ("mktemp", "sed", "tail", "tee"):
             (desk.tools / tool).symlink_to(shutil.which(tool))
         desk.program(desk.tools / "rt", RT)
@@ -59,7 +60,12 @@ class Steps(unittest.TestCase):
             desk.program(path, '#!{bash}\necho "ran: ${{0##*/}} $*"\n')
         for tool in TOOLS:
             desk.program(desk.tools / tool, "#!{bash}\n")
-        done = desk.run("test", VERDICT=verdict, STATUS=str(status))
+        for name in ("listing", "board_page", "calls"):
+            desk.program(desk.root / "crates" / name / "out" / name, "#!{bash}\n")
+        return desk.run("test", **variables)
+
+    def lines_of(self, desk: Checkout, status: int, verdict: str = VERDICT) -> list[str]:
+        done = self.done_with(desk, VERDICT=verdict, STATUS=str(status))
         self.assertEqual((done.returncode, done.stderr), (status, ""))
         return done.stdout.splitlines()
 
@@ -78,7 +84,15 @@ class Steps(unittest.TestCase):
     def test_nothing_runs_behind_proofs_that_fail(self) -> None:
         with checkout() as desk:
             lines = self.lines_of(desk, 1, "150 passed, 1 failed")
-            self.assertEqual(lines[-2:], ["ran: rt ci", "150 passed, 1 failed"])
+            self.assertEqual([lines[-3], lines[-1]], ["ran: rt ci", "150 passed, 1 failed"])
+
+    def test_edits_that_cannot_be_tried_fail(self) -> None:
+        for bad, status in ((", 2 of them only by a limit", 0), (", 1 bad", 1), (", 2 of them only by a limit, 12 bad", 1)):
+            with checkout() as desk:
+                done = self.done_with(desk, VERDICT=VERDICT, STATUS="0", BAD=bad)
+                said = f"test: {bad.split()[-2]} of the edits that must be refused cannot be tried\n" if status else ""
+                self.assertEqual((done.returncode, done.stderr), (status, said))
+                self.assertEqual(done.stdout.endswith(f"{VERDICT}\n"), not status)
 
 
 if __name__ == "__main__":

@@ -28,19 +28,19 @@ CALLS = "".join((ROOT / "crates" / source).read_text() for source in ("session/s
 
 # Where the definitions write the numbers that a refusal's words repeat, in the order of the words.
 WRITTEN = {
-    1: (r"^check1 s = unless \(leb (.+?) \(length s\)", r"^recordCheck J r =\s+unless \(leb (.+?) \(length r\)"),
+    1: (r"^check1 s = unless \(leb (.+?) \(length s\)", r"^record_check J r =\s+unless \(leb (.+?) \(length r\)"),
     2: (r"^check2 s = unless \(eqb \(version s\) (.+?)\)",),
-    3: (r"^check3 s = unless \(within (.+?) (.+?) \(lastYear s\)\)",),
+    3: (r"^check3 s = unless \(within (.+?) (.+?) \(last_year s\)\)",),
     5: (r"^check5 s = unless \(within (.+?) (.+?) \(closeness s\)\)",),
-    6: (r"^goodVariance v = within \((.+?)\) \((.+?)\) v",),
-    7: (r"^goodPriorVariance v = eqb v (.+?) \|\| within \((.+?)\) \((.+?)\) v",),
-    8: (r"^goodPart z = leb \(natAbs z\) (?P<size>.+)",),
-    9: (r"^goodAmount a = within (.+?) (.+?) a$",),
-    11: (r"^goodPart z = leb \(natAbs z\) (?P<size>.+)",),
+    6: (r"^good_variance v = within \((.+?)\) \((.+?)\) v",),
+    7: (r"^good_prior_variance v = eqb v (.+?) \|\| within \((.+?)\) \((.+?)\) v",),
+    8: (r"^good_part z = leb \(nat_abs z\) (?P<size>.+)",),
+    9: (r"^good_amount a = within (.+?) (.+?) a$",),
+    11: (r"^good_part z = leb \(nat_abs z\) (?P<size>.+)",),
     12: (r"\(within (.+?) (.+?) n\)\) .* \(refused 12 0\)",),
     14: (r"unless \(leb channel (.+?)\) 14 ",),
     23: (r"\(leb (.+?) total\) .* \(refused 23 0\)",),
-    25: (r"\(within (.+?) \(figures x \.last\) year\)\) \(refused 25 0\)",),
+    25: (r"\(within (.+?) \(figures x\)\.last year\)\) \(refused 25 0\)",),
 }
 
 
@@ -71,7 +71,7 @@ def parts_count(last: int) -> int:
 
 def page_length(last: int) -> int:
     """Of a page by the definitions: so many bytes for each part."""
-    line = re.search(r"^pageLength J = (\d+) \* parts J$", PAGE, re.MULTILINE)[1]
+    line = re.search(r"^page_length J = (\d+) \* parts J$", PAGE, re.MULTILINE)[1]
     return int(line) * parts_count(last)
 
 
@@ -79,8 +79,8 @@ def places() -> dict[int, str]:
     """Every number that the definitions refuse with, and its place in the specification's words."""
     constant = re.findall(r"\) (\d+) (\d+)(?: then|$)", DEFINITIONS, re.MULTILINE)
     constant += re.findall(r"\brefused (\d+) (\d+)", DEFINITIONS)
-    of_fields = re.findall(r"= fields .* (\d+) \(?\w+At\b|then fields .* (\d+) partAt", DEFINITIONS)
-    paid = re.findall(r"\) (\d+) \(paidAt ", DEFINITIONS)
+    of_fields = re.findall(r"= fields .* (\d+) \(?\w+_at\b|then fields .* (\d+) part_at", DEFINITIONS)
+    paid = re.findall(r"\) (\d+) \(paid_at ", DEFINITIONS)
     found = {int(number): place for number, place in constant}
     found |= {int(one or other): "its first byte" for one, other in of_fields}
     return found | {int(number): "the paid one's first byte" for number in paid}
@@ -113,7 +113,7 @@ class Refusals(unittest.TestCase):
 
     def test_the_law_lists_the_numbers_of_the_table(self) -> None:
         run = r"\(\((\d+) ≤ number\) × \(number ≤ (\d+)\)\)"
-        runs = re.search(rf"^pub in-table : .*\n    → .* → {run} ⊎ {run}$", LAW, re.MULTILINE).groups()
+        runs = re.search(rf"^pub in_table : .*\n    → .* → {run} ⊎ {run}$", LAW, re.MULTILINE).groups()
         self.assertEqual(listed("{} to {}, {} to {}".format(*runs)), [*table_of_numbers()])
 
     def test_16_is_not_used(self) -> None:
@@ -139,7 +139,7 @@ class Refusals(unittest.TestCase):
 
     def test_so_do_the_comments_of_the_code(self) -> None:
         rows = re.findall(r"^\| `\w+::\w+::\w+` \| `desk_(\w+)` .*\| ([\d, to]+) \|$", SPECIFICATION, re.MULTILINE)
-        function = r'(?:#\[no_mangle\]\n)?pub (?:extern "C" )?fn (?:desk_)?(\w+?)(?:_lent)?(?:<\'a>)?\('
+        function = r'(?:#\[unsafe\(no_mangle\)\]\n)?pub (?:extern "C" )?fn (?:desk_)?(\w+?)(?:_lent)?(?:<\'a>)?\('
         comments = re.findall(rf"^// (\d[^.\n]*)\..*\n{function}", CALLS, re.MULTILINE)
         rows += [(call, numbers) for call, numbers in rows if call != "row"]  # over a value; row's two calls stand in `readings`
         told = [(call, listed(numbers)) for numbers, call in comments]
@@ -163,14 +163,14 @@ class Limits(unittest.TestCase):
 
     def test_of_the_readme(self) -> None:
         said = re.search(r"^## Limits\n\n(.*?)\. The desk estimates", README, re.MULTILINE | re.DOTALL)[1]
-        last, part = value("yearLimit"), value("partLimit")
+        last, part = value("year_limit"), value("part_limit")
         doublings = part // reserving_desk.TICKS_PER_DOUBLING
         years = [2, last + 1, *defined(3)]
         self.assertEqual(numbers_in(said), years + defined(9) + defined(7) + [part, doublings] + defined(5) + defined(23))
 
     def test_of_what_is_guaranteed(self) -> None:
         ticks = re.search(r"a doubling has ([\d,]+)\.", README)[1]
-        self.assertEqual({value(ticks), reserving_desk.TICKS_PER_DOUBLING}, {value("ticksPerDoubling")})
+        self.assertEqual({value(ticks), reserving_desk.TICKS_PER_DOUBLING}, {value("ticks_per_doubling")})
         room = re.search(r"^ +pub room : (\d+) ≤ e$", DEFINITIONS, re.MULTILINE)[1]
         for text in (README, SPECIFICATION):
             self.assertEqual(re.findall(r"with e ≥ (\d+),", text), [room])
@@ -186,7 +186,7 @@ class Limits(unittest.TestCase):
             self.assertEqual(list(limits), defined(number), number)
 
     def test_of_a_page(self) -> None:
-        last = value("yearLimit")
+        last = value("year_limit")
         for j in range(1, last + 1):
             self.assertEqual([page.page_length(j), package_layout.page_length(j)], [page_length(j)] * 2)
         line = page_length(0)  # which would be one
@@ -196,7 +196,7 @@ class Limits(unittest.TestCase):
 
     def test_of_residues(self) -> None:
         """8 bytes for each part."""
-        for j in range(1, value("yearLimit") + 1):
+        for j in range(1, value("year_limit") + 1):
             self.assertEqual(package_layout.residues_length(j), 8 * parts_count(j))
         self.assertIn("/* the residues of a mean have 8(2J+1) bytes */", HEADER)
 
@@ -220,7 +220,7 @@ class Limits(unittest.TestCase):
         self.assertEqual(numbers, {
             "DESK_PAID": layout.PAID,
             "DESK_INCURRED": layout.INCURRED,
-            "DESK_MOST_SWEEPS": value("sweepLimit"),
+            "DESK_MOST_SWEEPS": value("sweep_limit"),
             "DESK_LONGEST_FILE": layout.LONGEST_FILE,
             "DESK_LONGEST_RECORD": layout.record_length(layout.LARGEST_YEAR),
             "DESK_LONGEST_PAGE": page_length(layout.LARGEST_YEAR),

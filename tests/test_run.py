@@ -104,10 +104,10 @@ class Building(unittest.TestCase):
                 before = desk.calls_of_rt()
                 desk.run("run", *words, "-")
                 desk.run("run", *words, "-")
-                self.assertEqual(desk.calls_of_rt(), [*before, f"check {program}"])
-                desk.age(f"target/bin/{program}")
+                self.assertEqual(desk.calls_of_rt(), [*before, f"{program} run"])
+                desk.age(f"target/bin/{program}", f"crates/{program}/out/{program}")
                 desk.run("run", *words, "-")
-                self.assertEqual(desk.calls_of_rt(), [*before, *[f"check {program}"] * 2])
+                self.assertEqual(desk.calls_of_rt(), [*before, *[f"{program} run"] * 2])
 
     def test_leaves_standard_input_to_the_program(self) -> None:
         with checkout() as desk:
@@ -115,12 +115,19 @@ class Building(unittest.TestCase):
                 done = desk.run("run", *words, "-", given="from a pipe\n")
                 self.assertEqual((done.returncode, done.stdout), (0, f"{begins}\nfrom a pipe\n"))
 
-    def test_a_program_that_is_gone_loses_its_stamp(self) -> None:
+    def test_a_program_that_is_gone_is_put_there_again(self) -> None:
         with checkout() as desk:
             for program, (words, *_) in PROGRAMS.items():
-                stamp = desk.write(f"target/stamp/{program}", "")
                 desk.run("run", *words, "-")
-                self.assertFalse(stamp.exists())
+                (desk.root / f"target/bin/{program}").unlink()
+                before = desk.calls_of_rt()
+                self.assertEqual(desk.run("run", *words, "-").returncode, 0)
+                self.assertEqual(desk.calls_of_rt(), before)
+
+    def test_a_program_may_end_as_it_likes_while_rt_runs_it(self) -> None:
+        with checkout() as desk:
+            for program, (words, *_) in PROGRAMS.items():
+                self.assertEqual(desk.run("run", *words, "-", ENDS="1").returncode, 0)
 
 
 if __name__ == "__main__":

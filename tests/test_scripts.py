@@ -101,36 +101,42 @@ class Kit(unittest.TestCase):
                 self.assertNotIn("kit.txt", desk.run(script, *words).stderr)
 
 
+def without_times(said: str) -> list[str]:
+    return re.sub(r"\d+ s\b", "N s", said).splitlines()
+
+
 class Progress(unittest.TestCase):
     def test_a_line_for_each_crate(self) -> None:
         with checkout() as desk:
-            self.assertEqual(desk.run("run", "-").stderr.splitlines(), [
+            self.assertEqual(without_times(desk.run("run", "-").stderr), [
                 "run: proving and building the listing program, 3 crates, which takes some minutes",
-                "run: proved fields (19 s), 1 of 3",
-                "run: proved chain (19 s), 2 of 3",
-                "run: proved listing (7 s), 3 of 3",
+                "run: proved fields (N s), 1 of 3",
+                "run: proved chain (N s), 2 of 3",
+                "run: proved listing (N s), 3 of 3",
             ])
-            self.assertEqual(desk.calls_of_rt(), ["check listing"])
-            said = desk.run("run", "--page", "-").stderr.splitlines()
+            self.assertEqual(desk.calls_of_rt(), ["listing run"])
+            said = without_times(desk.run("run", "--page", "-").stderr)
             self.assertEqual(said[::3], [
                 "run: proving and building the page program, 3 crates, which takes some minutes",
-                "run: proved board_page (7 s), 3 of 3",
+                "run: proved board_page (N s), 3 of 3",
             ])
-            self.assertEqual(desk.calls_of_rt()[1:], ["check board_page"])
+            self.assertEqual(desk.calls_of_rt()[1:], ["board_page run"])
 
     def test_no_crate_is_said_twice(self) -> None:
         with checkout() as desk:
-            said = desk.run("build", TOOK="unchanged since it was last proved").stderr
-            self.assertEqual(re.sub(r"\d+ s", "N s", said).splitlines(), [
+            self.assertEqual(without_times(desk.run("build").stderr), [
                 "build: proving and building desk calls, 4 crates, which takes some minutes",
-                "build: proved fields (unchanged), 1 of 4",
-                "build: proved chain (unchanged), 2 of 4",
+                "build: proved fields (N s), 1 of 4",
+                "build: proved chain (N s), 2 of 4",
                 "build: proved desk (N s), 3 of 4",
                 "build: proved calls (N s), 4 of 4",
             ])
 
     def test_all_that_rt_said_where_it_fails(self) -> None:
-        log = "fn fields: proved\nrt: fields proved (19 s)\nfn chain: proved\nrt: chain NOT PROVED (exit 1, 5 s)\n"
+        log = (
+            "fn fields::one: proved\ncrate fields: modules loaded=0 checked=9\nlogic=proved functions=1\n"
+            "fn chain::one: proved\nrt: the library chain did not build\n"
+        )
         for script, words, status, what in (
             ("run", ["-"], 2, "the listing program"), ("run", ["--page", "-"], 2, "the page program"), ("build", [], 1, "the library"),
         ):

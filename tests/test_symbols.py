@@ -10,31 +10,30 @@ import unittest
 from collections.abc import Iterator
 
 from believed import reached
-from declared import ROOT, files, text_of
+from declared import ROOT, antt_file, antt_files, files, is_kit, text_of
 from test_promises import PINNED
 from unused import without_comments
 
-# Where each operator comes from, in code, specs and proofs alike.
-OF_THE_KIT = {
-    "Prim.Native.Nat": "_+_ _-_ _*_ _/_ _%_ _^_ _≤_ _<_",
-    "mathlib.Core.Path": "_≡_ _∙_",
-    "mathlib.Core.Logic": "_≢_ _⊎_ _↔_",
-    "mathlib.Core.Bool": "_&&_ _||_",
-    "mathlib.Core.List": "_∷_ _++_",
-    "lib.IntN": "_+ℤ_ _-ℤ_ _*ℤ_",
-    "lib.Signed": "_≤ℤ_ _<ℤ_",
-    "types.Kit": "_$_ _∵_ _⊛_",
-}
+# Each operator, in code, specs and proofs alike.
+OF_THE_KIT = set(
+    "◌+◌ ◌-◌ ◌*◌ ◌/◌ ◌%◌ ◌^◌ ◌≤◌ ◌<◌ ◌≡◌ ◌∙◌ ◌≢◌ ◌⊎◌ ◌↔◌ ◌&&◌ ◌||◌ ◌∷◌ ◌++◌ ◌+ℤ◌ ◌-ℤ◌ ◌*ℤ◌ ◌≤ℤ◌ ◌<ℤ◌ ◌$◌ ◌∵◌ ◌⊛◌".split()
+)
 OF_THE_CRATES = {
-    "definitions/Refusals": "_then_",
-    "laws/Numbers": "_and-then_",
-    "holding/Decided": "_and_",
-    "integers/Solver": "_⊞_ _⊟_ _⊠_ _≐_ ⊖_",
+    "definitions/Refusals": "◌then◌",
+    "laws/Numbers": "◌and_then◌",
+    "holding/Decided": "◌and◌",
+    "integers/Solver": "◌⊞◌ ◌⊟◌ ◌⊠◌ ◌≐◌ ⊖◌",
 }
+
+# Modules of the kit that hand on one another's names as they are, so that a name means the same from each of them.
+HANDING_ON = re.compile(
+    r"Rattle\.std\.(specs\.Prelude|proofs\.(Common|Math\.\w+|lemmas\.Bool))|Prim\.Native\.Nat|mathlib\.Core\.\w+|native\.Mathlib\.\w+"
+    r"|lib\.\w+|mir\.Val|types\.Kit|borrow\.Author\.Tests"
+)
 
 # Fields and variables that have a name of the kit or of a definition, and pins.
 LOCAL = {
-    "chain/Arrays": "closeness own matrix rightHand figuresOf meanOf",
+    "chain/Arrays": "closeness own matrix right_hand_side figures_of mean_of",
     "definitions/Matrix": "closeness",
     "definitions/Page": "own weight",
     "definitions/Strikes": "paid incurred",
@@ -75,7 +74,7 @@ CONSTRUCTORS = {"[]", "zero", "suc", "pos", "negsuc", "true", "false", "inl", "i
 SUMS, HANDED_ON = "integers/Summation", "integers/Sum"
 
 # Besides its own module: what arrays stand for, and a struct of the source, may have the name of a definition too.
-ALSO_MEANT = r"Rattle·(chain\.specs\.Arrays|\w+(·specs)?\.specs\.declared\..*)"
+ALSO_MEANT = r"Rattle\.(chain\.specs\.Arrays|\w+\.specs\.declared\..*)"
 
 
 def local_to(name: str) -> set[str]:
@@ -86,21 +85,21 @@ def local_to(name: str) -> set[str]:
 def constructors_of(name: str) -> set[str]:
     """Those of TWICE that a file has, as it declares or imports them."""
     brought = dict(imported(name))
-    modules = {word: r"Rattle·{}(·specs)?\.specs\.{}".format(*file.split("/")) for word, file in TWICE.items()}
-    return {word for word, file in TWICE.items() if file == file_at(name) or re.fullmatch(modules[word], brought.get(word, ""))}
+    return {word for word, file in TWICE.items() if file == file_at(name) or brought.get(word) == module_of(file)}
 
 
-def path_of(file: str) -> str:
-    return "crates/{}/specs/{}.antt".format(*file.split("/"))
+def module_of(file: str) -> str:
+    """As imports write it: `Rattle.laws.specs.Pinned`."""
+    return "Rattle." + antt_file(file).removeprefix("crates/").removesuffix(".antt").replace("/", ".")
 
 
 def file_at(path: str) -> str:
-    return re.sub(r"crates/(\w+)/specs/(\w+)\.antt", r"\1/\2", path)
+    return re.sub(r"^crates/(\w+)/(?:specs|proofs)/(\w+)\.antt$", r"\1/\2", path)
 
 
 def said() -> list[str]:
     """The files that are to be read: what the contracts rest on, the pins, and the joint table with its examples."""
-    return sorted({*reached()[0], *map(path_of, PINNED), path_of(EXAMPLES), path_of(TABLE)})
+    return sorted({*reached()[0], *(path for file in (*PINNED, EXAMPLES, TABLE) for path in antt_files(file))})
 
 
 def sources(ending: str) -> list[str]:
@@ -114,7 +113,7 @@ def imported(name: str) -> Iterator[tuple[str, str]]:
 
 
 def is_operator(name: str) -> bool:
-    return bool(re.search(r"(?:^|\s)_|_(?:\s|$)", name))
+    return "◌" in name
 
 
 def text_behind_imports(name: str) -> str:
@@ -124,7 +123,9 @@ def text_behind_imports(name: str) -> str:
 def words_of(name: str) -> set[str]:
     """The words of a file of antt, without fields of a value and what is said to be of a module or a type."""
     text = re.sub(r"λ ([^.]*)\.", r"λ \1 ", text_behind_imports(name))
-    return set(re.split(r"[\s(){},;.«»]+", re.sub(r"\b[A-Z]\w*\.[^\s(){},;.]+|(?<=\s)\.[^\s(){},;.]+", " ", text)))
+    for module in re.findall(r"^ *use \S+ as (\w+)$", text_of(name), re.MULTILINE):
+        text = re.sub(rf"\b{module}\.[^\s(){{}},;.]+", " ", text)
+    return set(re.split(r"[\s(){},;.«»]+", re.sub(r"(?<=[^\s(])\.[^\s(){},;.]+", " ", text)))
 
 
 def bound_in(name: str) -> set[str]:
@@ -141,7 +142,7 @@ def names_of_the_kit() -> dict[str, set[str]]:
     found: dict[str, set[str]] = {}
     for name in sources(".antt") + sources(".rt"):
         for word, module in imported(name):
-            if "/proofs/" not in name and not module.startswith("Rattle·") and word not in OF_AN_OPTION:
+            if "/proofs/" not in name and is_kit(module) and word not in OF_AN_OPTION:
                 found.setdefault(word, set()).add(module)
     return found
 
@@ -149,8 +150,8 @@ def names_of_the_kit() -> dict[str, set[str]]:
 def names_of_definitions() -> list[tuple[str, str]]:
     """Each name that `definitions` and the sums declare, but for the examples, and the file of its module."""
     declared = r"^ *(?:(?:abbrev|unfoldable) pub|pub (?:record|data)) ([^\s{]+)"
-    paths = [path for path in sources(".antt") if path.startswith("crates/definitions/specs/") or path == path_of(SUMS)]
-    paths.remove(path_of(EXAMPLES))
+    paths = [path for path in sources(".antt") if path.startswith("crates/definitions/specs/") or path == antt_file(SUMS)]
+    paths.remove(antt_file(EXAMPLES))
     return [(word, path) for path in paths for word in re.findall(declared, text_of(path), re.MULTILINE)]
 
 
@@ -166,12 +167,14 @@ class Symbols(unittest.TestCase):
         self.assertEqual({file_at(name) for name in said() if '"' in without_comments(ROOT / name)}, OF_TEXTS)
 
     def test_operators(self) -> None:
-        kit = {operator: module for module, operators in OF_THE_KIT.items() for operator in operators.split()}
         own = {operator: file for file, operators in OF_THE_CRATES.items() for operator in operators.split()}
         for name in sources(".antt") + sources(".rt"):
             for operator, module in filter(lambda pair: is_operator(pair[0]), imported(name)):
-                found = re.sub(r"Rattle·(\w+?)(?:·specs)?\.specs\.", r"\1/", module)
-                self.assertEqual(kit.get(operator, own.get(operator)), found, f"{name}: {operator}")
+                if operator in OF_THE_KIT:
+                    self.assertTrue(HANDING_ON.fullmatch(module), f"{name}: {operator} of {module}")
+                else:
+                    self.assertIn(operator, own, name)
+                    self.assertEqual(module, module_of(own[operator]), f"{name}: {operator}")
         for name in sources(".antt"):
             fixities = re.findall(r"^\s*infix[lr]? +\d+ (.*)", text_of(name), re.MULTILINE)
             operators = {operator for line in fixities for operator in line.split()}
@@ -187,8 +190,9 @@ class Symbols(unittest.TestCase):
 
     def test_names_of_the_kit(self) -> None:
         modules = names_of_the_kit()
-        self.assertEqual({word: several for word, several in modules.items() if len(several) > 1}, {})
-        signs = {word.strip("_") if is_operator(word) else word: word for word in modules}
+        several = {word: found for word, found in modules.items() if len(found) > 1}
+        self.assertEqual({word: found for word, found in several.items() if not all(map(HANDING_ON.fullmatch, found))}, {})
+        signs = {word.strip("◌"): word for word in modules}
         for name in said():
             brought = dict(imported(name))
             local = local_to(name)
@@ -205,16 +209,16 @@ class Symbols(unittest.TestCase):
             self.assertLessEqual(bound_in(name) & definitions.keys(), local, name)
             for word in words_of(name) & definitions.keys() - local:
                 files = {SUMS, HANDED_ON} if file_at(definitions[word]) == SUMS else {file_at(definitions[word])}
-                modules = "|".join(r"Rattle·{}(·specs)?\.specs\.{}".format(*file.split("/")) for file in files)
+                modules = "|".join(re.escape(module_of(file)) for file in files)
                 self.assertRegex(brought.get(word, ""), rf"^({modules}|{ALSO_MEANT})$", f"{name}: {word}")
 
     def test_examples_are_the_joint_table_s(self) -> None:
-        module = re.compile(r"^ *(?:pub |ghost |unfoldable )*use Rattle·definitions(?:·specs)?\.specs\.Examples\b", re.MULTILINE)
+        module = re.compile(r"^ *(?:pub |ghost |unfoldable )*use Rattle\.definitions\.specs\.Examples\b", re.MULTILINE)
         users = [name for name in sources(".antt") + sources(".rt") if module.search(text_of(name))]
-        self.assertEqual(users, [path_of(TABLE)])
+        self.assertLessEqual(set(users), set(antt_files(TABLE)))
 
     def test_sums_are_handed_on_as_they_are(self) -> None:
-        self.assertIn("unfoldable pub use Rattle·integers·specs.specs.Summation.{sum, total}\n", text_of(path_of(HANDED_ON)))
+        self.assertIn("unfoldable pub use Rattle.integers.specs.Summation.{sum, total}\n", text_of(antt_file(HANDED_ON)))
 
 
 if __name__ == "__main__":

@@ -2,8 +2,8 @@
 
     python3 tests/try_edit.py crates/sweeping/must-fail/spent_before_4096.edit
 
-The kit's own command tries every edit of a crate and of what it depends on. Here the edit is made in a copy, over what was proved
-before; the error must name the fact that the edit is about.
+`rt must-fail` tries every edit of a crate. Here the edit is made in a copy, over what was proved before; the error must name the fact
+that the edit is about.
 """
 
 import re
@@ -14,9 +14,6 @@ import tempfile
 from pathlib import Path
 
 from declared import ROOT
-
-PROVED = ("rlib", "stamp", "inc")  # what the kit keeps of proofs
-
 
 def changes(edit: Path) -> list[tuple[str, str, str]]:
     """File, old and new text: a file may have several, and an edit several files."""
@@ -42,22 +39,15 @@ def make(edit: Path, crate: Path) -> str | None:
     return None
 
 
-def copy_to(folder: Path) -> None:
-    shutil.copytree(ROOT / "crates", folder / "crates", ignore=shutil.ignore_patterns("must-fail"))
-    shutil.copy(ROOT / "crates.txt", folder)
-    for name in PROVED:
-        if (ROOT / "target" / name).is_dir():
-            shutil.copytree(ROOT / "target" / name, folder / "target" / name)
-
-
 def tried(edit: Path) -> str:
-    """What the kit says of the crate with the edit made."""
+    """What the kit says of the crate with the edit made. It begins with what it kept of proofs on this machine."""
     crate = edit.parent.parent.name
     with tempfile.TemporaryDirectory() as name:
-        copy_to(Path(name))
+        shutil.copytree(ROOT / "crates", Path(name, "crates"), ignore=shutil.ignore_patterns("must-fail", "out"))
+        shutil.copy(ROOT / "crates.txt", name)
         if said := make(edit, Path(name, "crates", crate)):
             sys.exit(f"{edit.name}: {said}")
-        done = subprocess.run(["rt", "dev", crate], cwd=name, capture_output=True, text=True)
+        done = subprocess.run(["rt", "check"], cwd=Path(name, "crates", crate), capture_output=True, text=True, stdin=subprocess.DEVNULL)
     return (done.stdout + done.stderr).replace(f"{name}/", "")
 
 
@@ -66,7 +56,7 @@ def main() -> int:
         print(__doc__, file=sys.stderr)
         return 2
     said = tried(Path(sys.argv[1]).resolve())
-    # A function that has no file of its own is proved by the kit, which then says what it did not prove.
+    # Where a goal has no answer of its own, the kit says what it did not find.
     first = re.search(r"^.*: (?:error|it is not proved).*(?:\n(?!.*: (?:error|note)).*){0,12}", said, re.MULTILINE)
     print(first[0] if first else "not refused")
     return 0 if first else 1

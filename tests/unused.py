@@ -1,8 +1,9 @@
 """What nothing uses: imports, and what the crates define, in Rattle and in antt.
 
-Exempt is what is used from outside: an exported function, `main`, the theorem of a function's proof (`NAME-spec`), whatever the
-documents name between backticks, each field of a record that a contract or the documents name, being a promise, examples (under
-a heading `examples`, or of the name `example`), and what a file `Pinned` draws from statements that could else be weakened.
+Exempt is what is used from outside: an exported function, `main`, an answer to a goal of a function's proof (`goal.NAME`) or its theorem
+where a proof has one (`NAME-spec`), whatever the documents name between backticks, each field of a record that a contract or the documents
+name, being a promise, examples (under a heading `examples`, or of the name `example`), and what a file `Pinned` draws from statements that
+could else be weakened.
 
 Names are compared word by word and without types, so that a name may be missed which stands somewhere else for something else.
 """
@@ -23,6 +24,7 @@ SIGNATURE = re.compile(rf"( *)((?:abbrev |unfoldable |pub |ruleset )*)(?!let |us
 TYPE = re.compile(r"( *)(?:pub )?(record|data) ([^\s{]+)")
 MEMBER = re.compile(rf" +(?:pub )?{NAME} :(?=\s)")
 ITEM = re.compile(r" *(?:pub )?(?:fn|const|struct|enum) (\w+)")
+GOAL = re.compile(r" *(?:abbrev |pub )*\S+ : goal\.")
 VARIANT = re.compile(r"    ([A-Z]\w*)(?:\(.*\))?,$")
 
 
@@ -71,22 +73,22 @@ class Source:
         text = IMPORT.sub(lambda match: "\n" * match.group().count("\n"), self.text)
         for number, line in enumerate(text.split("\n")):
             if not re.match(r" *(?:infix|(?:pub )?mod )", line):
-                for word in (ANTT if self.antt else RATTLE).split(line):
+                for word in ANTT.split(line) if self.antt else [*RATTLE.split(line), *re.findall(r"\w+", line)]:
                     found.setdefault(word, []).append(number)
         return found
 
     @cached_property
     def behind_paths(self) -> set[str]:
         """In Rattle, what is named by its path, in imports too."""
-        return set() if self.antt else set(re.findall(r"::(\w+)", self.text))
+        return set() if self.antt else {*re.findall(r"::(\w+)", self.text), *(there for _, there, _, _ in self.imports)}
 
     @cached_property
     def projected(self) -> set[str]:
-        return set(re.findall(r"(?<![^\s(])\.«?([^\s(){},;.»]+)", self.text))
+        return set(re.findall(r"(?<=[^\s(])\.«?([^\s(){},;.»]+)", self.text))
 
     def mentions(self, name: str, own: range = range(0)) -> bool:
-        """Whether a name is used outside its own lines. Of an operator `_+_` its sign counts too."""
-        signs = [] if name.isidentifier() and not name.startswith("_") else [sign for sign in name.split("_") if sign]
+        """Whether a name is used outside its own lines. Of an operator `◌+◌` its sign counts too."""
+        signs = [sign for sign in name.split("◌") if sign] if "◌" in name else []
         used = {word for word in (name, *signs) if any(line not in own for line in self.words.get(word, []))}
         return name in used or bool(signs) and used.issuperset(signs)
 
@@ -151,13 +153,14 @@ def defined_in_rattle(source: Source) -> list[Defined]:
 
 def file_of(module: str) -> str:
     """The file of an antt module of this repository, below crates/; of another module nothing."""
-    named = re.match(r"Rattle·(\w+)(?:·specs|·proofs)?\.((?:specs|proofs)\..+)$", module)
+    named = re.match(r"Rattle\.(\w+)\.((?:specs|proofs)\..+)$", module)
     return f"{named[1]}/{named[2].replace('.', '/')}.antt" if named else ""
 
 
 class Repository:
     def __init__(self) -> None:
-        paths = sorted(path for path in CRATES.rglob("*") if path.suffix in (".rt", ".antt"))
+        found = (path for folder in ("src", "specs", "proofs") for path in CRATES.glob(f"*/{folder}/**/*"))
+        paths = sorted(path for path in found if path.suffix in (".rt", ".antt"))
         self.sources = [Source(path, without_comments(path)) for path in paths]
         told = " ".join(" ".join(re.findall(r"`([^`\n]+)`", path.read_text())) for path in DOCUMENTS)
         self.named = {word for breaks in (ANTT, RATTLE) for part in told.split("/") for word in breaks.split(part)}
@@ -170,7 +173,9 @@ class Repository:
                     self.importers.setdefault((file_of(module), there), []).append(source)
 
     def used(self, source: Source, item: Defined) -> bool:
-        if item.name in self.named or item.name.endswith("-spec") or source.path.name == "Pinned.antt":
+        if item.name in self.named or source.path.name == "Pinned.antt" or source.antt and GOAL.match(source.lines[item.own.start]):
+            return True
+        if source.path.name == "Proof.antt" and item.name.endswith("-spec"):
             return True
         if item.record:  # an equation or a bound is read by `omega` and `cc` without its name
             read = re.search("[≡≤<]", source.lines[item.own.start])
