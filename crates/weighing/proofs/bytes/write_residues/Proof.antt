@@ -9,7 +9,7 @@ use lib.ListN.{length, drop}
 use Rattle.integers.specs.Bits.{same}
 use Rattle.definitions.specs.Words.{part}
 use Rattle.definitions.specs.Layout.{parts, complement, number_bytes}
-use Rattle.laws.specs.NumberBytes.{with_numbers, put_none, put_next}
+use Rattle.laws.proofs.NumberBytes.{with_numbers, put_none, put_next}
 use Rattle.weighing.proofs.bytes.write_residues.Statement.{statement}
 use Rattle.weighing.proofs.bytes.write_residues.Tie as tie
 
