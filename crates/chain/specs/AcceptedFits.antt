@@ -10,13 +10,14 @@ use Rattle.definitions.specs.Observations.{Chain}
 use Rattle.definitions.specs.Matrix.{own, matrix, right_hand_side, figures_from, entry}
 use Rattle.definitions.specs.Refusals.{closeness_limit}
 use Rattle.definitions.specs.Strikes.{StruckFile, Admitted, chain_left, figures_left}
-use Rattle.laws.specs.Accepted.{accepted_file}
-use Rattle.laws.specs.Chains.{Bounded, carried_owned}
-use Rattle.laws.specs.ChainLimits.{chain_limits, entry_fits, diagonal_fits, right_hand_fits}
-use Rattle.laws.specs.Diagonal.{diagonal_owned}
-use Rattle.laws.specs.StruckChain.{struck_chain}
-use Rattle.laws.specs.Judged.{entry_of_chain}
-use Rattle.laws.specs.Tables.{tab_at}
+use Rattle.laws.proofs.Accepted.{accepted_file}
+use Rattle.laws.specs.Chains.{Bounded}
+use Rattle.laws.proofs.Chains.{carried_owned}
+use Rattle.laws.proofs.ChainLimits.{chain_limits, entry_fits, diagonal_fits, right_hand_fits}
+use Rattle.laws.proofs.Diagonal.{diagonal_owned}
+use Rattle.laws.proofs.StruckChain.{struck_chain}
+use Rattle.laws.proofs.Judged.{entry_of_chain}
+use Rattle.laws.proofs.Tables.{tab_at}
 use Rattle.chain.specs.Fitting.{Fitting, diagonal_limit, entry_limit}
 
 module _ (c : Chain) (e : ℕ) (bounded : Bounded c) (owned : (k : ℕ) → k < parts c.last → 1 ≤ own c k) where

@@ -14,7 +14,7 @@ use Rattle.definitions.specs.Loss.{Vector}
 use Rattle.definitions.specs.Refusals.{year_limit, closeness_limit}
 use Rattle.definitions.specs.Matrix as D
 use Rattle.definitions.specs.Matrix.{passed, fails, is_passed, passes, judge_from, judgement, residue}
-use Rattle.laws.specs.Tables.{tab_at}
+use Rattle.laws.proofs.Tables.{tab_at}
 use Rattle.chain.specs.declared.arrays.Figures.{Figures}
 use Rattle.chain.specs.declared.judge.Judgement.{Judgement}
 use Rattle.chain.specs.declared.judge.Judgement.TheVariants.{Passed, Fails}

@@ -14,7 +14,7 @@ use Rattle.definitions.specs.Layout.{parts}
 use Rattle.definitions.specs.Refusals.{part_limit}
 use Rattle.definitions.specs.Loss.{Vector}
 use Rattle.definitions.specs.Matrix.{residue, entry}
-use Rattle.laws.specs.Tables.{tab_at}
+use Rattle.laws.proofs.Tables.{tab_at}
 use Rattle.chain.specs.declared.arrays.Figures.{Figures as FlatFigures}
 use Rattle.chain.specs.Arrays.{mean_of, cell, cell_mirrored, system, figures_of, system_of, row_product}
 use Rattle.chain.specs.Fitting.{Fitting, Inside, entry_limit, diagonal_limit, row_limit, right_hand_limit, residue_limit}

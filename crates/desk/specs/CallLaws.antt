@@ -9,8 +9,8 @@ use Rattle.definitions.specs.Matrix as D
 use Rattle.definitions.specs.Strikes.{Step}
 use Rattle.definitions.specs.Ultimate.{Divided, numerator, both_variances}
 use Rattle.definitions.specs.Machine.{Answer, refused, State, empty, holds, row_part}
-use Rattle.laws.specs.Numbers as N
-use Rattle.laws.specs.Rows.{row_inside, row_some, row_shown}
+use Rattle.laws.proofs.Numbers as N
+use Rattle.laws.proofs.Rows.{row_inside, row_some, row_shown}
 use Rattle.readings.specs.declared.rows.RowPlace.{RowPlace}
 use Rattle.readings.specs.Rows.{Places}
 use Rattle.chain.specs.Arrays.{figures_at}

@@ -11,8 +11,8 @@ use Rattle.definitions.specs.Matrix.{passes, Figures, entry, own, matrix, right_
 use Rattle.definitions.specs.Strikes.{StruckFile, chain_left}
 use Rattle.definitions.specs.Machine.{refused, empty, holds, row_part, write_call}
 use Rattle.definitions.specs.Page.{page_of}
-use Rattle.laws.specs.Tables.{tab_at}
-use Rattle.laws.specs.Pinned.{Worth, worth, Near, rounded}
+use Rattle.laws.proofs.Tables.{tab_at}
+use Rattle.laws.proofs.Pinned.{Worth, worth, Near, rounded}
 use Rattle.observations.specs.declared.Observations.{Observations}
 use Rattle.holding.specs.State.{Held, state_of, held_in, session_state, HoldsFile}
 use Rattle.opening.specs.Opens.{opens_to}

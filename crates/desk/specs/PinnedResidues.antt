@@ -14,9 +14,9 @@ use Rattle.definitions.specs.Residues.{residue_bytes, residue_at}
 use Rattle.definitions.specs.Strikes.{step, StruckFile, is_struck, Admitted, chain_left}
 use Rattle.definitions.specs.Machine.{refused, empty, holds, residues_call}
 use Rattle.definitions.specs.Kept.{Kept, kept_of, chain_kept}
-use Rattle.laws.specs.ObservedResidues.{residues_long, observed_is_residue}
-use Rattle.laws.specs.PinnedResidues.{residue_by_matrix}
-use Rattle.laws.specs.StruckSteps.{each_left}
+use Rattle.laws.proofs.ObservedResidues.{residues_long, observed_is_residue}
+use Rattle.laws.proofs.PinnedResidues.{residue_by_matrix}
+use Rattle.laws.proofs.StruckSteps.{each_left}
 use Rattle.observations.specs.declared.Observations.{Observations}
 use Rattle.holding.specs.State.{Held, session_state}
 use Rattle.weighing.specs.Weighs.{weighs_to}

@@ -8,7 +8,7 @@ use Rattle.definitions.specs.Layout.{Bytes}
 use Rattle.definitions.specs.Strikes.{Step}
 use Rattle.definitions.specs.Machine.{open_file, judge, sweep, read, page, ultimate, strike, residues, close, State, map_state, Outcome, outcome}
 use Rattle.definitions.specs.Kept.{Kept, chain_kept, in_session}
-use Rattle.laws.specs.MachineLaws.{residues_alone}
+use Rattle.laws.proofs.MachineLaws.{residues_alone}
 use Rattle.observations.specs.declared.Observations.{Observations}
 use Rattle.holding.specs.State.{Held, held_in, kept_with, session_state}
 use Rattle.holding.specs.SessionLaws.{judge_session, sweep_session, read_session, page_session, ultimate_session}

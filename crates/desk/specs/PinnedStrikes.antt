@@ -12,8 +12,10 @@ use Rattle.definitions.specs.Strikes.{Step, step, is_step, left_beside, strike_c
 use Rattle.definitions.specs.Matrix.{figures_from}
 use Rattle.definitions.specs.Machine.{refused, strike, empty, holds, map_state, the_file, strike_unless, strike_call, outcome}
 use Rattle.definitions.specs.Kept.{kept_of, in_session}
-use Rattle.laws.specs.MachineLaws.{map_outcome, outcome_alike, session_alike}
-use Rattle.laws.specs.StruckSteps.{left_of, two_left}
+use Rattle.laws.specs.MachineLaws.{map_outcome}
+use Rattle.laws.proofs.MachineLaws.{outcome_alike, session_alike}
+use Rattle.laws.specs.StruckSteps.{left_of}
+use Rattle.laws.proofs.StruckSteps.{two_left}
 use Rattle.observations.specs.declared.Observations.{Observations}
 use Rattle.holding.specs.State.{Held, session_state}
 use Rattle.striking.specs.Strikes.{strikes_to}

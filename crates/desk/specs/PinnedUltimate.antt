@@ -13,9 +13,9 @@ use Rattle.definitions.specs.Ultimate as U
 use Rattle.definitions.specs.Ultimate.{numerator, both_variances, ultimate_of}
 use Rattle.definitions.specs.Machine.{refused, ultimate, empty, holds, the_file, ultimate_call, outcome}
 use Rattle.definitions.specs.Kept.{kept_of, in_session}
-use Rattle.laws.specs.MachineLaws.{outcome_alike, session_alike}
-use Rattle.laws.specs.Pinned.{Worth, worth}
-use Rattle.laws.specs.PinnedUltimate.{N, M, figure, exact}
+use Rattle.laws.proofs.MachineLaws.{outcome_alike, session_alike}
+use Rattle.laws.proofs.Pinned.{Worth, worth}
+use Rattle.laws.proofs.PinnedUltimate.{N, M, figure, exact}
 use Rattle.observations.specs.declared.Observations.{Observations}
 use Rattle.holding.specs.State.{Held, state_of, session_state, HoldsFile}
 use Rattle.holding.specs.SessionLaws.{ultimate_session}

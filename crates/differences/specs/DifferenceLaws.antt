@@ -22,11 +22,12 @@ use Rattle.definitions.specs.Strikes.{step, steps_in}
 use Rattle.definitions.specs.Sweep.{bring_back}
 use Rattle.definitions.specs.Kept.{paid_step_in, chain_in, channel_of, column_of, steps_of, marked}
 use Rattle.laws.specs.Chains.{Bounded, observed_limit}
-use Rattle.laws.specs.Marks.{steps_phi, steps_psi, steps_few}
-use Rattle.laws.specs.PrecisionMatrix.{by_development}
-use Rattle.laws.specs.Ranks.{rank_of, sign_of, part_by_index_phi, part_by_index_psi, part_psi, by_part, rank_below}
-use Rattle.laws.specs.SameChains.{IsPart, is_part}
-use Rattle.laws.specs.StruckChain.{left_bounded}
+use Rattle.laws.proofs.Marks.{steps_phi, steps_psi, steps_few}
+use Rattle.laws.proofs.PrecisionMatrix.{by_development}
+use Rattle.laws.specs.Ranks.{rank_of, sign_of}
+use Rattle.laws.proofs.Ranks.{part_by_index_phi, part_by_index_psi, part_psi, by_part, rank_below}
+use Rattle.laws.proofs.SameChains.{IsPart, is_part}
+use Rattle.laws.proofs.StruckChain.{left_bounded}
 use Rattle.observations.specs.declared.Observations.{Observations}
 use Rattle.observations.specs.Arrays.{at, mean_at, prior_at, ratio_at, brought_within, observed_in, struck_at, struck_in}
 use Rattle.observations.specs.KeptLaws.{weight_at, prior_at_lem, ratio_at_lem, mean_at_lem, paid_log, incurred_log, kept_bounded}

@@ -5,7 +5,8 @@ use Rattle.std.proofs.Math.Numerals.{add-two, add-three}
 use Rattle.std.proofs.lemmas.List.Edits.{sets-eq}
 use Rattle.std.proofs.Math.Seq.{drop-append-add}
 use Rattle.definitions.specs.Layout.{Bytes, bytes_of}
-use Rattle.laws.specs.NumberBytes.{bytes_length, Put}
+use Rattle.laws.specs.NumberBytes.{Put}
+use Rattle.laws.proofs.NumberBytes.{bytes_length}
 
 pub four_put : (b : Bytes) (v at : ℕ) {i j k : ℕ} → i ≡ at + 1 → j ≡ at + 2 → k ≡ at + 3 → at + 4 ≤ length b
     → Put 4 b at v (set (set (set (set b at (v / 256 / 256 / 256 % 256)) i (v / 256 / 256 % 256)) j (v / 256 % 256)) k (v % 256))

@@ -12,10 +12,11 @@ use Rattle.definitions.specs.Layout.{parts, psi_index, cells, row_start}
 use Rattle.definitions.specs.Observations.{Chain}
 use Rattle.definitions.specs.Kept.{steps_of, paid_step_in}
 use Rattle.definitions.specs.Matrix.{Part, Φ, Ψ, part_by_index, own_of, own, matrix, shared_by, ratios_of_last, right_hand_side}
-use Rattle.laws.specs.Columns.{own_of_phi, own_of_psi, firsts_of_phi, firsts_of_psi}
-use Rattle.laws.specs.Marks.{steps_phi, steps_psi}
-use Rattle.laws.specs.Ranks.{rank_of, sign_of, part_by_index_phi, part_by_index_psi, by_part, rank_below, matrix_by_ranks}
-use Rattle.laws.specs.PrecisionMatrix.{firsts_of, ratios_by_development, target_by_rank}
+use Rattle.laws.proofs.Columns.{own_of_phi, own_of_psi, firsts_of_phi, firsts_of_psi}
+use Rattle.laws.proofs.Marks.{steps_phi, steps_psi}
+use Rattle.laws.specs.Ranks.{rank_of, sign_of}
+use Rattle.laws.proofs.Ranks.{part_by_index_phi, part_by_index_psi, by_part, rank_below, matrix_by_ranks}
+use Rattle.laws.proofs.PrecisionMatrix.{firsts_of, ratios_by_development, target_by_rank}
 use Rattle.observations.specs.Arrays.{at, mean_at, prior_at, mark_at, unmarked}
 use Rattle.observations.specs.HoldsChain.{HoldsChain}
 use Rattle.observations.specs.Strikes.{LeftIn}

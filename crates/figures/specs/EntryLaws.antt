@@ -11,7 +11,8 @@ use Rattle.integers.specs.Solver.{ring, ◌⊠◌, ⊖◌, num, ◌≐◌}
 use Rattle.definitions.specs.Words.{part}
 use Rattle.definitions.specs.Layout.{parts}
 use Rattle.definitions.specs.Matrix.{Part, Φ, Ψ, part_by_index}
-use Rattle.laws.specs.Ranks.{rank_of, sign_of, rank_below, part_by_index_phi, part_psi}
+use Rattle.laws.specs.Ranks.{rank_of, sign_of}
+use Rattle.laws.proofs.Ranks.{rank_below, part_by_index_phi, part_psi}
 use Rattle.observations.specs.Arrays.{at}
 use Rattle.figures.specs.Entries.{share_of, entry_of, Stretch, Turned, run_of, of_kind, shared_by, RowOf, RowsTo}
 

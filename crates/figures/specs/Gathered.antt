@@ -10,9 +10,9 @@ use Rattle.definitions.specs.Refusals.{year_limit}
 use Rattle.definitions.specs.Observations.{Chain}
 use Rattle.definitions.specs.Kept.{steps_of}
 use Rattle.definitions.specs.Matrix.{own, matrix, right_hand_side, figures_from}
-use Rattle.laws.specs.Marks.{steps_few}
-use Rattle.laws.specs.Diagonal.{matrix_symmetric}
-use Rattle.laws.specs.Tables.{tab_cong}
+use Rattle.laws.proofs.Marks.{steps_few}
+use Rattle.laws.proofs.Diagonal.{matrix_symmetric}
+use Rattle.laws.proofs.Tables.{tab_cong}
 use Rattle.observations.specs.Arrays.{at, mean_at, prior_at, ratio_at}
 use Rattle.observations.specs.HoldsChain.{HoldsChain}
 use Rattle.observations.specs.Strikes.{LeftIn}

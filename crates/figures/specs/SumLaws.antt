@@ -14,8 +14,9 @@ use Rattle.integers.specs.Total.{total_bound, sum_size}
 use Rattle.definitions.specs.Words.{part}
 use Rattle.definitions.specs.Layout.{cells, row_start}
 use Rattle.definitions.specs.Matrix.{Φ, part_by_index}
-use Rattle.laws.specs.Cells.{cell_below}
-use Rattle.laws.specs.Ranks.{rank_of, sign_of, part_by_index_phi, part_psi}
+use Rattle.laws.proofs.Cells.{cell_below}
+use Rattle.laws.specs.Ranks.{rank_of, sign_of}
+use Rattle.laws.proofs.Ranks.{part_by_index_phi, part_psi}
 use Rattle.row_starts.specs.Starts.{starts_at}
 use Rattle.observations.specs.Arrays.{at, mean_at, prior_at, ratio_at, mark_at}
 use Rattle.figures.specs.Sums.{Logs, OfRows, step_of, counted_at, step_sum, start_sum, column_of, column_sum, target_from, last_cell, ratio_of, ratio_sum}

@@ -9,7 +9,7 @@ use Rattle.integers.specs.Linear.{linear, zarith}
 use Rattle.definitions.specs.Words.{tab_from, part}
 use Rattle.definitions.specs.Layout.{parts}
 use Rattle.definitions.specs.Matrix.{entry}
-use Rattle.laws.specs.Tables.{tab_at}
+use Rattle.laws.proofs.Tables.{tab_at}
 use Rattle.chain.specs.declared.arrays.Figures.{Figures}
 use Rattle.chain.specs.Arrays.{figures_at, figures_of, cell}
 use Rattle.chain.specs.Fitting.{Inside, entry_limit, diagonal_limit, own_limit, right_hand_limit}

@@ -5,7 +5,7 @@ use Rattle.definitions.specs.Layout.{last_year}
 use Rattle.definitions.specs.Refusals.{accepted}
 use Rattle.definitions.specs.Strikes.{step, StruckFile, is_struck, figures_left}
 use Rattle.definitions.specs.Machine.{empty, holds, Call}
-use Rattle.laws.specs.StruckSteps.{each_left}
+use Rattle.laws.proofs.StruckSteps.{each_left}
 use Rattle.laws.specs.ReachedStates.{after}
 use Rattle.chain.specs.Arrays.{figures_of, mean_of}
 use Rattle.holding.specs.State.{Held, state_of, HoldsFile}

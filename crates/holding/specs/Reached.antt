@@ -7,9 +7,10 @@ use Rattle.definitions.specs.Layout.{parts, last_year}
 use Rattle.definitions.specs.Matrix as D
 use Rattle.definitions.specs.Strikes.{StruckFile, Admitted, figures_left}
 use Rattle.definitions.specs.Machine.{empty, holds, Call}
-use Rattle.laws.specs.Accepted.{accepted_file}
-use Rattle.laws.specs.Tables.{tab_at}
-use Rattle.laws.specs.ReachedStates.{Good, after, reached_good}
+use Rattle.laws.proofs.Accepted.{accepted_file}
+use Rattle.laws.proofs.Tables.{tab_at}
+use Rattle.laws.specs.ReachedStates.{after}
+use Rattle.laws.proofs.ReachedStates.{Good, reached_good}
 use Rattle.chain.specs.Arrays.{figures_of, mean_of}
 use Rattle.chain.specs.Fitting.{Fitting}
 use Rattle.chain.specs.AcceptedFits.{admitted_fits}

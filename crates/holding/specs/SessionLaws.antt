@@ -8,8 +8,9 @@ use Rattle.definitions.specs.Matrix.{Figures}
 use Rattle.definitions.specs.Machine.{judge, sweep, read, page, ultimate, answers, outcome}
 use Rattle.definitions.specs.Machine.{judge_call, sweep_call, write_call, record_in, page_in, ultimate_call}
 use Rattle.definitions.specs.Kept.{latest_in, in_session}
-use Rattle.laws.specs.MachineLaws.{map_outcome, judge_alike, sweep_alike, write_alike, ultimate_alike}
-use Rattle.laws.specs.Ultimates.{same_latest}
+use Rattle.laws.specs.MachineLaws.{map_outcome}
+use Rattle.laws.proofs.MachineLaws.{judge_alike, sweep_alike, write_alike, ultimate_alike}
+use Rattle.laws.proofs.Ultimates.{same_latest}
 use Rattle.observations.specs.declared.Observations.{Observations}
 use Rattle.observations.specs.Arrays.{observed_in}
 use Rattle.holding.specs.State.{Held, state_of, kept_with, session_state}

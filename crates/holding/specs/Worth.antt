@@ -5,7 +5,7 @@ use Rattle.definitions.specs.Layout.{closeness}
 use Rattle.definitions.specs.Matrix.{passes}
 use Rattle.definitions.specs.Strikes.{StruckFile, chain_left, figures_left}
 use Rattle.definitions.specs.Guarantee.{Guarantee, Rounded}
-use Rattle.laws.specs.Demand3.{demand3}
+use Rattle.laws.proofs.Demand3.{demand3}
 use Rattle.holding.specs.State.{Held, HoldsFile}
 
 module _ {s : Held} {f : StruckFile} {μ : List ℤ} {total : ℕ} (open-file : HoldsFile s f μ total) (u : List ℤ) where

@@ -4,7 +4,7 @@ use Rattle.definitions.specs.Words.{part}
 use Rattle.definitions.specs.Layout.{Bytes, last_year, closeness, mean_of}
 use Rattle.definitions.specs.Refusals.{clear, record_check}
 use Rattle.definitions.specs.Strikes.{StruckFile}
-use Rattle.laws.specs.Pinned.{Worth, worth, Near, rounded}
+use Rattle.laws.proofs.Pinned.{Worth, worth, Near, rounded}
 use Rattle.holding.specs.State.{Held, HoldsFile}
 use Rattle.judging.specs.declared.JudgeAnswer.{JudgeAnswer}
 use Rattle.judging.specs.declared.JudgeAnswer.TheVariants.{Passed}

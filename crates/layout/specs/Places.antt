@@ -2,7 +2,7 @@
 use Rattle.std.specs.Prelude.{ℕ, ◌+◌, ◌*◌, ◌≤◌, ◌<◌, length}
 use Rattle.std.proofs.Common.{arith}
 use Rattle.definitions.specs.Layout.{Bytes, last_year, parts, cells, prior_mean_at, amount_at}
-use Rattle.laws.specs.Cells.{blocks_end}
+use Rattle.laws.proofs.Cells.{blocks_end}
 use Rattle.layout.specs.Checks.{Whole}
 
 module _ (s : Bytes) (w : Whole s) where

@@ -10,7 +10,7 @@ use Rattle.definitions.specs.Matrix.{Part, part_by_index, Figures, figures_from,
 use Rattle.definitions.specs.Text.{ascii, space, line_feed, decimal, signed_decimal, name_of, index_of, lines}
 use Rattle.definitions.specs.Machine.{State, record_in}
 use Rattle.definitions.specs.Programs.{count_line, part_line, listed, listing}
-use Rattle.laws.specs.Lines.{lines_same}
+use Rattle.laws.proofs.Lines.{lines_same}
 use Rattle.laws.specs.Printed.{MeanSettled}
 use Rattle.records.specs.Records.{InLimits, record_length_lem, part_read}
 

@@ -12,13 +12,13 @@ use Rattle.definitions.specs.Refusals.{part_limit}
 use Rattle.definitions.specs.Sweep.{bring_back}
 use Rattle.definitions.specs.Strikes.{Step, step, without}
 use Rattle.definitions.specs.Kept.{Observed, paid_step_in, chain_in, channel_of, column_of, step_of, steps_of}
-use Rattle.laws.specs.Cells.{cell_below, cells_few}
+use Rattle.laws.proofs.Cells.{cell_below, cells_few}
 use Rattle.laws.specs.Chains.{observed_limit, Bounded, Counted}
-use Rattle.laws.specs.Marks.{steps_phi, steps_psi}
-use Rattle.laws.specs.Ranks.{part_by_index_phi, part_by_index_psi}
+use Rattle.laws.proofs.Marks.{steps_phi, steps_psi}
+use Rattle.laws.proofs.Ranks.{part_by_index_phi, part_by_index_psi}
 use Rattle.laws.specs.SameChains.{SameChain}
-use Rattle.laws.specs.StepLaws.{bring_back_inside, bring_back_of_inside}
-use Rattle.laws.specs.Tables.{tab_at, tab_cong}
+use Rattle.laws.proofs.StepLaws.{bring_back_inside, bring_back_of_inside}
+use Rattle.laws.proofs.Tables.{tab_at, tab_cong}
 use Rattle.observations.specs.declared.Observations.{Observations}
 use Rattle.observations.specs.Arrays.{at, mean_at, prior_at, ratio_at, mark_at, brought_within, log_within, observations_at, observed_in}
 use Rattle.observations.specs.HoldsChain.{chain_at}

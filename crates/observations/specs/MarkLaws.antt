@@ -14,10 +14,11 @@ use Rattle.definitions.specs.Layout.{parts, psi_index}
 use Rattle.definitions.specs.Matrix.{Part, Φ, Ψ, part_by_index}
 use Rattle.definitions.specs.Strikes.{Step, step, same_step, steps_in, left_beside, EachLeft}
 use Rattle.definitions.specs.Kept.{channel_of, column_of, step_of, steps_of, part_of_step, marks_of, marked}
-use Rattle.laws.specs.Marks.{steps_some, steps_few}
-use Rattle.laws.specs.Ranks.{part_by_index_phi, part_by_index_psi, by_part, same_part, same_part_lem}
+use Rattle.laws.proofs.Marks.{steps_some, steps_few}
+use Rattle.laws.specs.Ranks.{same_part}
+use Rattle.laws.proofs.Ranks.{part_by_index_phi, part_by_index_psi, by_part, same_part_lem}
 use Rattle.laws.specs.StruckSteps.{left_of}
-use Rattle.laws.specs.Tables.{tab_at, tab_cong}
+use Rattle.laws.proofs.Tables.{tab_at, tab_cong}
 use Rattle.observations.specs.declared.Observations.{Observations}
 use Rattle.observations.specs.Arrays.{at, mark_at, unmarked, struck_at, struck_in}
 use Rattle.observations.specs.Strikes.{LeftIn}

@@ -13,13 +13,13 @@ use Rattle.definitions.specs.Observations.{chain_of, log_of, paid_step, incurred
 use Rattle.definitions.specs.Sweep.{bring_back}
 use Rattle.definitions.specs.Kept.{observed_of, paid_step_in, steps_of, marks_of}
 use Rattle.laws.specs.Accepted.{AcceptedFile}
-use Rattle.laws.specs.Cells.{cell_below}
+use Rattle.laws.proofs.Cells.{cell_below}
 use Rattle.laws.specs.Chains.{observed_limit}
-use Rattle.laws.specs.FileChain.{logarithm_limit}
-use Rattle.laws.specs.Filled.{empty_at}
-use Rattle.laws.specs.FileWeights.{part_from, part_to, prior_to, g_to}
-use Rattle.laws.specs.StepLaws.{bring_back_of_inside}
-use Rattle.laws.specs.Tables.{tab_cong}
+use Rattle.laws.proofs.FileChain.{logarithm_limit}
+use Rattle.laws.proofs.Filled.{empty_at}
+use Rattle.laws.proofs.FileWeights.{part_from, part_to, prior_to, g_to}
+use Rattle.laws.proofs.StepLaws.{bring_back_of_inside}
+use Rattle.laws.proofs.Tables.{tab_cong}
 use Rattle.observations.specs.Arrays.{at, mark_at, unmarked, brought_within, log_within, observations_at, observed_in, struck_at, struck_in}
 use Rattle.observations.specs.HoldsChain.{HoldsChain}
 use Rattle.observations.specs.Reading.{PartsTo, Parts, Observes}

@@ -4,8 +4,8 @@ use Rattle.std.proofs.Common.{subst, ◌∙◌, arith, length-set}
 use Rattle.definitions.specs.Layout.{Bytes, last_year, variance_of, prior_variance, prior_mean, amount}
 use Rattle.definitions.specs.Weight.{weight}
 use Rattle.definitions.specs.Observations.{log_of}
-use Rattle.laws.specs.Cells.{cells_few}
-use Rattle.laws.specs.Runs.{run_next, run_beside}
+use Rattle.laws.proofs.Cells.{cells_few}
+use Rattle.laws.proofs.Runs.{run_next, run_beside}
 use Rattle.observations.specs.Reading.{CellsTo, Logarithms, PartsTo, OfPart, OfParts}
 
 -- ---- cells

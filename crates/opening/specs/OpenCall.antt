@@ -7,11 +7,12 @@ use Rattle.definitions.specs.Refusals.{clear, file_check, is_clear}
 use Rattle.definitions.specs.Observations.{chain_of}
 use Rattle.definitions.specs.Matrix as D
 use Rattle.definitions.specs.Strikes.{unstruck}
-use Rattle.laws.specs.Accepted.{AcceptedFile, accepted_file}
-use Rattle.laws.specs.FileChain.{logarithm_limit}
-use Rattle.laws.specs.StruckChain.{admitted}
-use Rattle.laws.specs.FileWeights.{part_to, prior_to, g_to}
-use Rattle.laws.specs.Tables.{tab_cong}
+use Rattle.laws.specs.Accepted.{AcceptedFile}
+use Rattle.laws.proofs.Accepted.{accepted_file}
+use Rattle.laws.proofs.FileChain.{logarithm_limit}
+use Rattle.laws.proofs.StruckChain.{admitted}
+use Rattle.laws.proofs.FileWeights.{part_to, prior_to, g_to}
+use Rattle.laws.proofs.Tables.{tab_cong}
 use Rattle.observations.specs.declared.Observations.{Observations}
 use Rattle.observations.specs.Arrays.{observations_at}
 use Rattle.observations.specs.Reading.{Observes}

@@ -7,7 +7,7 @@ use Rattle.definitions.specs.Refusals.{year_limit}
 use Rattle.definitions.specs.Matrix.{Part, part_by_index}
 use Rattle.definitions.specs.Text.{space, line_feed, more_digits, decimal, signed_decimal, aligned, name_of, index_of}
 use Rattle.definitions.specs.Page.{page_line, page_length}
-use Rattle.laws.specs.Decimal.{decimal_length, signed_length}
+use Rattle.laws.proofs.Decimal.{decimal_length, signed_length}
 use Rattle.laws.specs.Pages.{PageInColumns, InColumns}
 
 pub record OfLine (page : List ℕ) (at last k : ℕ) (mean : ℤ) (own : ℕ) : Type 0 where

@@ -7,7 +7,7 @@ use Rattle.definitions.specs.Matrix.{Figures}
 use Rattle.definitions.specs.Strikes.{StruckFile}
 use Rattle.definitions.specs.Ultimate.{numerator, both_variances}
 use Rattle.definitions.specs.Machine.{holds}
-use Rattle.laws.specs.Pinned.{Worth, worth}
+use Rattle.laws.proofs.Pinned.{Worth, worth}
 use Rattle.observations.specs.declared.Observations.{Observations}
 use Rattle.holding.specs.State.{Held, state_of, HoldsFile}
 use Rattle.projecting.specs.declared.Ultimate.{Ultimate}

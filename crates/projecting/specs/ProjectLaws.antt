@@ -12,9 +12,10 @@ use Rattle.definitions.specs.Strikes.{figures_left}
 use Rattle.definitions.specs.Ultimate as U
 use Rattle.definitions.specs.Ultimate.{ultimate_of}
 use Rattle.definitions.specs.Machine.{refused, ultimate_is, holds, ultimate_call}
-use Rattle.laws.specs.Accepted.{Within, within_yes}
-use Rattle.laws.specs.Tables.{tab_at}
-use Rattle.laws.specs.Ultimates.{same_latest, ultimate_divided, ultimate_divisor, ultimate_cong}
+use Rattle.laws.specs.Accepted.{Within}
+use Rattle.laws.proofs.Accepted.{within_yes}
+use Rattle.laws.proofs.Tables.{tab_at}
+use Rattle.laws.proofs.Ultimates.{same_latest, ultimate_divided, ultimate_divisor, ultimate_cong}
 use Rattle.layout.specs.declared.checks.Check.{Check}
 use Rattle.layout.specs.declared.checks.Check.TheVariants.{Refuses}
 use Rattle.observations.specs.declared.Observations.{Observations}

@@ -15,7 +15,7 @@ use Rattle.integers.specs.Linear.{linear}
 use Rattle.definitions.specs.Words.{tab_from, part}
 use Rattle.definitions.specs.Layout.{Bytes, parts, record_length, bytes_of, four_bytes, part_bytes, record_of}
 use Rattle.definitions.specs.Refusals.{part_limit}
-use Rattle.laws.specs.Tables.{tab_from_length, tab_from_snoc}
+use Rattle.laws.proofs.Tables.{tab_from_length, tab_from_snoc}
 use Rattle.records.specs.Records.{FourPut, with_parts, bytes_length, part_bytes_length, part_bytes_snoc}
 
 -- ---- reading: part k in place of the first zero

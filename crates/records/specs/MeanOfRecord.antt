@@ -5,8 +5,8 @@ use Rattle.std.proofs.Common.{sym, ap, ◌∙◌, arith, leb→le}
 use Rattle.definitions.specs.Words.{part}
 use Rattle.definitions.specs.Layout.{Bytes, signed, part_at, parts, mean_of}
 use Rattle.definitions.specs.Refusals.{part_limit, good_part, clear, record_check, is_clear}
-use Rattle.laws.specs.Tables.{tab_at}
-use Rattle.laws.specs.ClearChecks.{fields_clear}
+use Rattle.laws.proofs.Tables.{tab_at}
+use Rattle.laws.proofs.ClearChecks.{fields_clear}
 use Rattle.layout.specs.Checks.{record_head}
 use Rattle.layout.specs.CheckLaws.{then_clear, record_checks}
 use Rattle.records.specs.Records.{part_padded}

@@ -12,8 +12,8 @@ use Rattle.definitions.specs.Words.{part}
 use Rattle.definitions.specs.Layout.{Bytes, big_endian, unsigned, twos_complement, signed, length_word, version, parts, part_at, record_length}
 use Rattle.definitions.specs.Layout.{mean_of, bytes_of, four_bytes, part_bytes, record_of}
 use Rattle.definitions.specs.Refusals.{part_limit, good_part, clear, record_check}
-use Rattle.laws.specs.ClearChecks.{fields_good}
-use Rattle.laws.specs.Tables.{tab_from_length, tab_at}
+use Rattle.laws.proofs.ClearChecks.{fields_good}
+use Rattle.laws.proofs.Tables.{tab_from_length, tab_at}
 
 -- so many parts of a mean are inside the limits
 abbrev pub InLimits : ℕ → List ℤ → Type 0

@@ -2,7 +2,7 @@
 use Rattle.std.specs.Prelude.{ℕ, ◌+◌, ◌*◌, ◌-◌, ◌/◌, ◌≤◌, ◌<◌, ◌≡◌, refl, List, get_or, length}
 use Rattle.std.proofs.Common.{◌∙◌, arith, le-leb}
 use Rattle.std.proofs.lemmas.Bool.{lt-leb}
-use Rattle.laws.specs.Cells.{entry_at}
+use Rattle.laws.proofs.Cells.{entry_at}
 use Rattle.row_starts.specs.Starts.{Starts}
 
 module _ (J : ℕ) (r : List ℕ) (starts : Starts J r) where

@@ -4,7 +4,7 @@ use Rattle.std.proofs.Common.{◌∙◌, arith}
 use Rattle.definitions.specs.Layout.{row_start}
 use Rattle.definitions.specs.RowStarts.{table_entry}
 use Rattle.laws.specs.Filled.{Filled}
-use Rattle.laws.specs.Cells.{entry_starts}
+use Rattle.laws.proofs.Cells.{entry_starts}
 
 pub record Starts (J : ℕ) (r : List ℕ) : Type 0 where
   pub filled : Filled 16 16 0 (λ year. table_entry (16 * J + year)) r

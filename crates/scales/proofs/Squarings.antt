@@ -4,7 +4,7 @@ use mathlib.Core.Path.{◌≡◌, refl, sym, ap, ap₂, ◌∙◌}
 use native.Mathlib.Omega.{arith}
 use lib.IntN.{ℤ, pos}
 use Rattle.definitions.specs.Logarithm.{logarithm, bits_of, next_bit, squarings}
-use Rattle.laws.specs.LogarithmBits.{next_bit_small, logarithm_run}
+use Rattle.laws.proofs.LogarithmBits.{next_bit_small, logarithm_run}
 use Rattle.scales.specs.declared.Squaring.{Squaring}
 use Rattle.scales.specs.Squaring.{Start, Next}
 use Rattle.scales.proofs.Bits.{one_bit_more, few_bits, bits_next}

@@ -7,8 +7,10 @@ use Rattle.definitions.specs.Strikes.{StruckFile, figures_left}
 use Rattle.definitions.specs.Programs.{Show, program_text, refusal_line, spent_line}
 use Rattle.definitions.specs.Machine.{opened, refused, open_file, State, empty, holds, map_state, open_call, sweep_call, write_call, outcome, the_file}
 use Rattle.definitions.specs.Kept.{kept_of, in_session}
-use Rattle.laws.specs.MachineLaws.{map_outcome, sweep_alike, outcome_alike, session_alike}
-use Rattle.laws.specs.Printed.{MeanSettled, Ends, opening, sweeping, swept_ends}
+use Rattle.laws.specs.MachineLaws.{map_outcome}
+use Rattle.laws.proofs.MachineLaws.{sweep_alike, outcome_alike, session_alike}
+use Rattle.laws.specs.Printed.{MeanSettled, Ends}
+use Rattle.laws.proofs.Printed.{opening, sweeping, swept_ends}
 use Rattle.observations.specs.declared.Observations.{Observations}
 use Rattle.holding.specs.State.{Held, state_of, session_state}
 use Rattle.holding.specs.StateLaws.{held_of_session}

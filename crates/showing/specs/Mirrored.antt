@@ -5,8 +5,8 @@ use Rattle.std.proofs.Common.{sym, ap, ◌∙◌, arith, length-set, ext_get_or,
 use Rattle.std.proofs.Math.Decide.{dec_lt}
 use Rattle.std.proofs.lemmas.List.{length-replicate}
 use Rattle.definitions.specs.Words.{part}
-use Rattle.laws.specs.Tables.{tab_at, tab_from_length}
-use Rattle.laws.specs.Filled.{empty_at}
+use Rattle.laws.proofs.Tables.{tab_at, tab_from_length}
+use Rattle.laws.proofs.Filled.{empty_at}
 use Rattle.chain.specs.Arrays.{cell}
 use Rattle.showing.specs.Shown.{entry_shown, matrix_shown, entry_below, entry_behind, entry_is}
 

@@ -8,7 +8,7 @@ use Rattle.definitions.specs.Layout.{last_year, closeness}
 use Rattle.definitions.specs.Matrix.{Figures, entry, own, matrix, right_hand_side}
 use Rattle.definitions.specs.Strikes.{StruckFile, chain_left}
 use Rattle.definitions.specs.Machine.{empty, holds}
-use Rattle.laws.specs.Tables.{tab_at}
+use Rattle.laws.proofs.Tables.{tab_at}
 use Rattle.chain.specs.Arrays.{figures_at}
 use Rattle.holding.specs.State.{Held, state_of, HoldsFile}
 use Rattle.showing.specs.declared.FiguresAnswer.TheVariants.{Shown, Refused}

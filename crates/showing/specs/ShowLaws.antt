@@ -11,8 +11,8 @@ use Rattle.definitions.specs.Refusals.{year_limit}
 use Rattle.definitions.specs.Matrix as D
 use Rattle.definitions.specs.Matrix.{entry}
 use Rattle.definitions.specs.Strikes.{StruckFile, Admitted, chain_left, figures_left}
-use Rattle.laws.specs.Accepted.{accepted_file}
-use Rattle.laws.specs.Tables.{tab_at}
+use Rattle.laws.proofs.Accepted.{accepted_file}
+use Rattle.laws.proofs.Tables.{tab_at}
 use Rattle.chain.specs.Arrays.{figures_at, figures_of}
 use Rattle.holding.specs.State.{Held, Fits, dec_fits, state_of}
 use Rattle.holding.specs.StateLaws.{state_of_held, state_of_empty}

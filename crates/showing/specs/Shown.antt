@@ -7,7 +7,7 @@ use mathlib.Core.List.{List, []}
 use Rattle.std.proofs.Math.Decide.{dec_lt}
 use Rattle.std.proofs.Math.ListN.{get_or-eq_default}
 use Rattle.definitions.specs.Words.{tab_from, part}
-use Rattle.laws.specs.Tables.{tab_at, tab_from_length}
+use Rattle.laws.proofs.Tables.{tab_at, tab_from_length}
 use Rattle.laws.specs.Filled.{Filled}
 use Rattle.chain.specs.Arrays.{cell}
 

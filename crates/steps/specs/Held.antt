@@ -13,8 +13,8 @@ use Rattle.definitions.specs.Words.{part}
 use Rattle.definitions.specs.Layout.{parts}
 use Rattle.definitions.specs.Matrix.{residue, entry}
 use Rattle.definitions.specs.Sweep.{bring_back, change, step}
-use Rattle.laws.specs.Tables.{tab_from_length, tab_at, tab_cong}
-use Rattle.laws.specs.StepLaws.{sum_set}
+use Rattle.laws.proofs.Tables.{tab_from_length, tab_at, tab_cong}
+use Rattle.laws.proofs.StepLaws.{sum_set}
 use Rattle.chain.specs.Arrays.{mean_of, cell, system, row_product}
 use Rattle.chain.specs.Sizes.{mean_at_lem, entry_at, residue_at_lem}
 use Rattle.steps.specs.declared.Working.{Working}

@@ -8,7 +8,7 @@ use Rattle.integers.specs.Floor.{floor_div}
 use Rattle.definitions.specs.Words.{part}
 use Rattle.definitions.specs.Layout.{parts}
 use Rattle.definitions.specs.Refusals.{part_limit}
-use Rattle.laws.specs.StepLaws.{bring_back_inside}
+use Rattle.laws.proofs.StepLaws.{bring_back_inside}
 use Rattle.chain.specs.Arrays.{mean_of, cell, system}
 use Rattle.chain.specs.Fitting.{Fitting, Inside, diagonal_limit, residue_limit}
 use Rattle.chain.specs.Sizes.{diagonal_from, diagonal_fits, cell_fits, residue_fits}

@@ -15,7 +15,7 @@ use Rattle.definitions.specs.Matrix as D
 use Rattle.definitions.specs.Matrix.{residue, is_passed, passes}
 use Rattle.definitions.specs.Sweep as S
 use Rattle.definitions.specs.Sweep.{step, change, sweep_from, one_sweep, sweeps, sweep_limit}
-use Rattle.laws.specs.Tables.{tab_cong}
+use Rattle.laws.proofs.Tables.{tab_cong}
 use Rattle.chain.specs.declared.arrays.Figures.{Figures}
 use Rattle.chain.specs.Arrays.{mean_of, system, figures_of, system_of, row_product}
 use Rattle.chain.specs.Fitting.{Fitting, Inside}

@@ -3,8 +3,8 @@ use Rattle.std.specs.Prelude.{ℕ, ◌≤◌, List, ℤ}
 use Rattle.std.proofs.Common.{arith}
 use Rattle.definitions.specs.Words.{part}
 use Rattle.definitions.specs.Layout.{parts}
-use Rattle.laws.specs.Cells.{cells_few}
-use Rattle.laws.specs.StepLaws.{bring_back_inside}
+use Rattle.laws.proofs.Cells.{cells_few}
+use Rattle.laws.proofs.StepLaws.{bring_back_inside}
 use Rattle.observations.specs.declared.Observations.{Observations}
 use Rattle.observations.specs.Arrays.{mean_at, observations_at}
 use Rattle.observations.specs.Inside.{TicksInside, WeightsInside}

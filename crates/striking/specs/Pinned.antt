@@ -9,8 +9,9 @@ use Rattle.definitions.specs.Matrix.{figures_from}
 use Rattle.definitions.specs.Strikes.{Step, StruckFile, Admitted, is_struck, strike_check}
 use Rattle.definitions.specs.Machine.{Answer, refused, struck_out, strike, holds, map_state, strike_unless, strike_call, the_file, outcome}
 use Rattle.definitions.specs.Kept.{kept_of, in_session}
-use Rattle.laws.specs.MachineLaws.{map_outcome, outcome_alike, session_alike}
-use Rattle.laws.specs.StruckSteps.{strikable, strike_leaves}
+use Rattle.laws.specs.MachineLaws.{map_outcome}
+use Rattle.laws.proofs.MachineLaws.{outcome_alike, session_alike}
+use Rattle.laws.proofs.StruckSteps.{strikable, strike_leaves}
 use Rattle.observations.specs.declared.Observations.{Observations}
 use Rattle.holding.specs.State.{Held, session_state, HoldsFile}
 use Rattle.holding.specs.StateLaws.{held_of_session}

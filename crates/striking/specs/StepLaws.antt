@@ -9,9 +9,9 @@ use Rattle.definitions.specs.Layout.{parts, psi_index}
 use Rattle.definitions.specs.Refusals.{clear, refuses}
 use Rattle.definitions.specs.Strikes.{Step, step, steps_in, is_step, left_beside, strike_check}
 use Rattle.definitions.specs.Kept.{channel_of, column_of, step_of, steps_of, part_of_step}
-use Rattle.laws.specs.Marks.{steps_phi, steps_psi}
-use Rattle.laws.specs.Ranks.{part_by_index_phi, part_by_index_psi, same_test}
-use Rattle.laws.specs.StruckSteps.{strikable, strike_channel}
+use Rattle.laws.proofs.Marks.{steps_phi, steps_psi}
+use Rattle.laws.proofs.Ranks.{part_by_index_phi, part_by_index_psi, same_test}
+use Rattle.laws.proofs.StruckSteps.{strikable, strike_channel}
 use Rattle.observations.specs.Arrays.{unmarked}
 use Rattle.striking.specs.Steps.{OfStep, mark_of}
 

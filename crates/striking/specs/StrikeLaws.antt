@@ -12,12 +12,12 @@ use Rattle.definitions.specs.Sweep.{bring_back}
 use Rattle.definitions.specs.Strikes.{Step, step, same_step, strike_check, EachLeft, without}
 use Rattle.definitions.specs.Machine.{strike_call}
 use Rattle.definitions.specs.Kept.{chain_in, channel_of, column_of, step_of, steps_of, part_of_step, marks_of, marked}
-use Rattle.laws.specs.Marks.{steps_phi, steps_psi, steps_few}
-use Rattle.laws.specs.Ranks.{part_by_index_phi, part_by_index_psi}
-use Rattle.laws.specs.StepLaws.{bring_back_inside}
-use Rattle.laws.specs.StruckSteps.{strikable, strike_leaves, check_cong}
-use Rattle.laws.specs.StruckChain.{left_bounded, left_owned}
-use Rattle.laws.specs.Tables.{tab_cong}
+use Rattle.laws.proofs.Marks.{steps_phi, steps_psi, steps_few}
+use Rattle.laws.proofs.Ranks.{part_by_index_phi, part_by_index_psi}
+use Rattle.laws.proofs.StepLaws.{bring_back_inside}
+use Rattle.laws.proofs.StruckSteps.{strikable, strike_leaves, check_cong}
+use Rattle.laws.proofs.StruckChain.{left_bounded, left_owned}
+use Rattle.laws.proofs.Tables.{tab_cong}
 use Rattle.observations.specs.declared.Observations.{Observations}
 use Rattle.observations.specs.Arrays.{mean_at, mark_at, observations_at, observed_in, struck_in}
 use Rattle.observations.specs.Strikes.{LeftIn}

@@ -3,7 +3,7 @@ use Rattle.std.specs.Prelude.{ℕ, ◌≤◌, ◌≡◌, refl, List, ℤ}
 use Rattle.definitions.specs.Words.{part}
 use Rattle.definitions.specs.Layout.{closeness}
 use Rattle.definitions.specs.Strikes.{StruckFile}
-use Rattle.laws.specs.Pinned.{Worth, worth, Near, rounded}
+use Rattle.laws.proofs.Pinned.{Worth, worth, Near, rounded}
 use Rattle.layout.specs.CheckLaws.{within_yes}
 use Rattle.holding.specs.State.{Held, HoldsFile}
 use Rattle.sweeping.specs.declared.SweepAnswer.{SweepAnswer}

@@ -5,7 +5,7 @@ use Rattle.definitions.specs.Words.{part, within}
 use Rattle.definitions.specs.Matrix as D
 use Rattle.definitions.specs.Matrix.{passes}
 use Rattle.definitions.specs.Sweep.{sweeps, sweep_limit}
-use Rattle.laws.specs.ReachedStates.{sweeps_total}
+use Rattle.laws.proofs.ReachedStates.{sweeps_total}
 use Rattle.layout.specs.CheckLaws.{within_yes}
 use Rattle.chain.specs.Arrays.{figures_of, mean_of}
 use Rattle.chain.specs.Judge.{Passes}

@@ -3,7 +3,7 @@ use Rattle.std.specs.Prelude.{ℕ, zero, suc, ◌+◌, ◌-◌, ◌/◌, ◌%◌
 use Rattle.std.proofs.Common.{sym, ap, subst, ◌∙◌, append_assoc, append-nil, pow-suc, zero-add, suc-add, arith, drop_at}
 use Rattle.std.proofs.lemmas.List.{length-replicate, set_at}
 use Rattle.definitions.specs.Text.{space, minus, digit, decimal_from, more_digits, decimal, aligned}
-use Rattle.laws.specs.Decimal.{decimal_last, decimal_more, decimal_length, aligned_length}
+use Rattle.laws.proofs.Decimal.{decimal_last, decimal_more, decimal_length, aligned_length}
 use Rattle.text.specs.declared.digits.Digits.{Digits}
 
 -- the text at the right end of the 20 bytes, and where it begins

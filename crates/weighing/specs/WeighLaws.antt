@@ -15,13 +15,14 @@ use Rattle.definitions.specs.Strikes.{StruckFile, Admitted, chain_left, figures_
 use Rattle.definitions.specs.Machine.{written, holds, Outcome, writes_unless, residues_call}
 use Rattle.definitions.specs.Kept.{kept_of, chain_kept}
 use Rattle.laws.specs.Filled.{Filled}
-use Rattle.laws.specs.MachineLaws.{map_outcome, residues_alike}
-use Rattle.laws.specs.Marks.{chain_kept_lem}
-use Rattle.laws.specs.NumberBytes.{number_bytes_cong}
-use Rattle.laws.specs.ObservedResidues.{residues_long, residues_read, observed_same}
-use Rattle.laws.specs.SameChains.{same_self}
-use Rattle.laws.specs.StruckChain.{struck_chain}
-use Rattle.laws.specs.Tables.{tab_at}
+use Rattle.laws.specs.MachineLaws.{map_outcome}
+use Rattle.laws.proofs.MachineLaws.{residues_alike}
+use Rattle.laws.proofs.Marks.{chain_kept_lem}
+use Rattle.laws.proofs.NumberBytes.{number_bytes_cong}
+use Rattle.laws.proofs.ObservedResidues.{residues_long, residues_read, observed_same}
+use Rattle.laws.proofs.SameChains.{same_self}
+use Rattle.laws.proofs.StruckChain.{struck_chain}
+use Rattle.laws.proofs.Tables.{tab_at}
 use Rattle.layout.specs.CheckLaws.{then_clear}
 use Rattle.observations.specs.declared.Observations.{Observations}
 use Rattle.records.specs.MeanOfRecord.{part_small}

@@ -3,7 +3,7 @@ use Rattle.std.specs.Prelude.{ℕ, ◌≡◌, List, ℤ}
 use Rattle.definitions.specs.Words.{part}
 use Rattle.definitions.specs.Layout.{Bytes, closeness}
 use Rattle.definitions.specs.Strikes.{StruckFile}
-use Rattle.laws.specs.Pinned.{Worth, worth}
+use Rattle.laws.proofs.Pinned.{Worth, worth}
 use Rattle.holding.specs.State.{Held, HoldsFile}
 use Rattle.writing.specs.declared.WriteAnswer.{WriteAnswer}
 use Rattle.writing.specs.declared.WriteAnswer.TheVariants.{Written}

@@ -11,9 +11,9 @@ use Rattle.definitions.specs.Page.{page_length}
 use Rattle.definitions.specs.Strikes.{unstruck}
 use Rattle.definitions.specs.Machine.{page_in}
 use Rattle.definitions.specs.Programs.{paged}
-use Rattle.laws.specs.Accepted.{accepted_file}
-use Rattle.laws.specs.Pages.{file_page_fits}
-use Rattle.laws.specs.StruckChain.{admitted}
+use Rattle.laws.proofs.Accepted.{accepted_file}
+use Rattle.laws.proofs.Pages.{file_page_fits}
+use Rattle.laws.proofs.StruckChain.{admitted}
 use Rattle.settling.specs.Printed.{prints_front, prints_as}
 use Rattle.settling.specs.Settles.{WritesWhole, writes_whole}
 use Rattle.board_page.proofs.page_mean.Statement.{statement}

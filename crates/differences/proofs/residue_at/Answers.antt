@@ -17,7 +17,8 @@ use Rattle.definitions.specs.Words.{part}
 use Rattle.definitions.specs.Observations.{Chain}
 use Rattle.definitions.specs.Matrix.{Part, part_by_index}
 use Rattle.definitions.specs.Kept.{steps_of}
-use Rattle.laws.specs.Ranks.{rank_of, sign_of, part_by_index_phi, part_psi}
+use Rattle.laws.specs.Ranks.{rank_of, sign_of}
+use Rattle.laws.proofs.Ranks.{part_by_index_phi, part_psi}
 use Rattle.observations.specs.declared.Observations.{Observations}
 use Rattle.observations.specs.Arrays.{observations_at}
 use Rattle.differences.specs.Differences.{left_in, prior_term, step_term}

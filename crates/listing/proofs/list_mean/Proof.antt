@@ -10,8 +10,8 @@ use Rattle.definitions.specs.Refusals.{year_limit}
 use Rattle.definitions.specs.Text.{ascii}
 use Rattle.definitions.specs.Machine.{record_in}
 use Rattle.definitions.specs.Programs.{count_line}
-use Rattle.laws.specs.Accepted.{accepted_file}
-use Rattle.laws.specs.Printed.{listing_most}
+use Rattle.laws.proofs.Accepted.{accepted_file}
+use Rattle.laws.proofs.Printed.{listing_most}
 use Rattle.text.specs.Added.{Added, both, in_words}
 use Rattle.settling.specs.Printed.{prints}
 use Rattle.settling.specs.Settles.{WritesWhole, writes_whole}

@@ -9,7 +9,7 @@ use Rattle.definitions.specs.Layout.{parts, part_at, signed}
 use Rattle.definitions.specs.Matrix.{part_by_index}
 use Rattle.definitions.specs.Text.{lines}
 use Rattle.definitions.specs.Programs.{part_line}
-use Rattle.laws.specs.Lines.{lines_next}
+use Rattle.laws.proofs.Lines.{lines_next}
 use Rattle.fields.specs.Fields.{signed_read, signed_outside}
 use Rattle.text.specs.Added.{Added, both, in_words, nothing}
 use Rattle.listing.proofs.put_parts.Statement.{statement}

@@ -12,8 +12,9 @@ use Rattle.definitions.specs.Layout.{parts}
 use Rattle.definitions.specs.Matrix.{part_by_index}
 use Rattle.definitions.specs.Text.{lines}
 use Rattle.definitions.specs.Page.{page_line, page_of}
-use Rattle.laws.specs.Lines.{lines_next}
-use Rattle.laws.specs.Pages.{InColumns, PageInColumns, in_columns, page_fits}
+use Rattle.laws.proofs.Lines.{lines_next}
+use Rattle.laws.specs.Pages.{InColumns, PageInColumns}
+use Rattle.laws.proofs.Pages.{in_columns, page_fits}
 use Rattle.text.specs.Added.{both, in_words, nothing, whole}
 use Rattle.pages.proofs.write_page.Goals as goal
 

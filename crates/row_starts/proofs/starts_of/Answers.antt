@@ -9,9 +9,9 @@ use mir.Facts.{Fits-below}
 use lib.ListN.{get_or}
 use Rattle.definitions.specs.Words.{tab_from}
 use Rattle.definitions.specs.RowStarts.{table_entry}
-use Rattle.laws.specs.Tables.{tab_at}
-use Rattle.laws.specs.Cells.{entry_few}
-use Rattle.laws.specs.Filled.{filled_none, filled_next, filled_to}
+use Rattle.laws.proofs.Tables.{tab_at}
+use Rattle.laws.proofs.Cells.{entry_few}
+use Rattle.laws.proofs.Filled.{filled_none, filled_next, filled_to}
 use Rattle.row_starts.proofs.starts_of.Invariants.{IsTable}
 use Rattle.row_starts.proofs.starts_of.Goals as goal
 

@@ -1,6 +1,6 @@
 -- There is room for the line.
 use borrow.Author.Rules.{rules}
-use Rattle.laws.specs.Printed.{refusal_most}
+use Rattle.laws.proofs.Printed.{refusal_most}
 use Rattle.settling.specs.Printed.{prints}
 use Rattle.settling.proofs.refused.Statement.{statement}
 use Rattle.settling.proofs.refused.Tie as tie

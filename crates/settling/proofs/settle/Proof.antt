@@ -7,7 +7,7 @@ use lib.ListN.{length}
 use Rattle.definitions.specs.Layout.{Bytes}
 use Rattle.definitions.specs.Strikes.{figures_left}
 use Rattle.definitions.specs.Machine.{empty, map_state}
-use Rattle.laws.specs.Printed.{opening, long_text, refused_text}
+use Rattle.laws.proofs.Printed.{opening, long_text, refused_text}
 use Rattle.holding.specs.State.{state_of, kept_with, session_state}
 use Rattle.opening.specs.Opens.{of_open, opens_to}
 use Rattle.sweeping.specs.Sweeps.{sweeps_to}

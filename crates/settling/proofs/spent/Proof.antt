@@ -2,7 +2,7 @@
 use borrow.Author.Rules.{rules}
 use Rattle.definitions.specs.Words.{tab_from}
 use Rattle.definitions.specs.Text.{ascii}
-use Rattle.laws.specs.Printed.{spent_most}
+use Rattle.laws.proofs.Printed.{spent_most}
 use Rattle.settling.specs.Printed.{prints}
 use Rattle.settling.proofs.spent.Statement.{statement}
 use Rattle.settling.proofs.spent.Tie as tie

@@ -14,7 +14,7 @@ use Rattle.integers.specs.Sum.{sum, sum_next}
 use Rattle.integers.specs.Total.{sizes, total_next}
 use Rattle.definitions.specs.Words.{part}
 use Rattle.definitions.specs.Layout.{parts}
-use Rattle.laws.specs.Filled.{empty_at}
+use Rattle.laws.proofs.Filled.{empty_at}
 use Rattle.chain.specs.Arrays.{mean_of, cell, cell_at, cell_mirrored, row_product}
 use Rattle.integers.specs.Bits.{stored, read}
 use Rattle.chain.specs.Decides.{decided_yes, decided_no, not_yes, not_no}

@@ -7,8 +7,8 @@ use lib.IntN.{ℤ, ◌-ℤ◌}
 use Rattle.integers.specs.Bits.{same}
 use Rattle.definitions.specs.Layout.{cells}
 use Rattle.definitions.specs.Kept.{steps_of}
-use Rattle.laws.specs.Cells.{cell_below, cells_few}
-use Rattle.laws.specs.Marks.{steps_phi, steps_psi}
+use Rattle.laws.proofs.Cells.{cell_below, cells_few}
+use Rattle.laws.proofs.Marks.{steps_phi, steps_psi}
 use Rattle.observations.specs.Arrays.{observations_at}
 use Rattle.differences.specs.Differences.{log_at}
 use Rattle.differences.specs.DifferenceLaws.{first_is, paid_is, incurred_is}

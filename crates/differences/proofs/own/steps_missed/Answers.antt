@@ -15,7 +15,7 @@ use Rattle.integers.specs.Sum.{sum, sum_zero, sum_next}
 use Rattle.definitions.specs.Observations.{Chain}
 use Rattle.definitions.specs.Matrix.{part_by_index}
 use Rattle.definitions.specs.Kept.{steps_of}
-use Rattle.laws.specs.Marks.{steps_few}
+use Rattle.laws.proofs.Marks.{steps_few}
 use Rattle.row_starts.specs.Starts.{starts_at}
 use Rattle.observations.specs.declared.Observations.{Observations}
 use Rattle.observations.specs.Arrays.{observations_at}

@@ -13,8 +13,8 @@ use Rattle.definitions.specs.Words.{part}
 use Rattle.definitions.specs.Layout.{cells, row_start}
 use Rattle.definitions.specs.Observations.{Chain}
 use Rattle.definitions.specs.Loss.{ratio}
-use Rattle.laws.specs.Cells.{cell_below, cells_few}
-use Rattle.laws.specs.RunningSums.{summed_none, summed_next}
+use Rattle.laws.proofs.Cells.{cell_below, cells_few}
+use Rattle.laws.proofs.RunningSums.{summed_none, summed_next}
 use Rattle.row_starts.specs.Starts.{starts_at}
 use Rattle.observations.specs.declared.Observations.{Observations}
 use Rattle.observations.specs.Arrays.{observations_at}

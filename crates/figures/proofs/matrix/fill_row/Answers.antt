@@ -14,7 +14,8 @@ use Rattle.integers.specs.Size.{fits, kept, nat_abs-+}
 use Rattle.definitions.specs.Words.{part}
 use Rattle.definitions.specs.Layout.{parts}
 use Rattle.definitions.specs.Matrix.{part_by_index}
-use Rattle.laws.specs.Ranks.{rank_of, rank_below}
+use Rattle.laws.specs.Ranks.{rank_of}
+use Rattle.laws.proofs.Ranks.{rank_below}
 use Rattle.integers.specs.Bits.{stored, read}
 use Rattle.observations.specs.Arrays.{at}
 use Rattle.figures.specs.Entries.{share_of, entry_of, Stretch}

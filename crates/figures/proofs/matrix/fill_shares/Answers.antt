@@ -1,7 +1,7 @@
 -- `figures::matrix::fill_shares` meets its contract: two runs, one behind the other, are the row.
 use Prim.Native.Nat.{◌≤◌}
 use native.Mathlib.Omega.{arith}
-use Rattle.laws.specs.Ranks.{rank_below}
+use Rattle.laws.proofs.Ranks.{rank_below}
 use Rattle.figures.specs.EntryLaws.{stretch_join, stretch_to, run_phi, run_psi}
 use Rattle.figures.proofs.matrix.fill_shares.Goals as goal
 use Rattle.figures.proofs.matrix.fill_shares.Goals.{After-rank_of-rank}

@@ -9,7 +9,7 @@ use mir.Val.{to_z, of_z}
 use Rattle.integers.specs.Size.{fits, kept, nat_abs_neg}
 use Rattle.integers.specs.Solver.{ring, ◌⊟◌, ⊖◌, num, ◌≐◌}
 use Rattle.definitions.specs.Words.{part}
-use Rattle.laws.specs.Filled.{filled_none, filled_next}
+use Rattle.laws.proofs.Filled.{filled_none, filled_next}
 use Rattle.integers.specs.Bits.{read}
 use Rattle.figures.proofs.matrix.turned_shares.Goals as goal
 use Rattle.figures.proofs.matrix.turned_shares.Goals.{In-loop-n}

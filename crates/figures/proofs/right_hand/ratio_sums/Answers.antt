@@ -11,10 +11,10 @@ use Rattle.integers.specs.Sum.{sum, sum_next}
 use Rattle.integers.specs.Size.{nat_abs-*-≤}
 use Rattle.definitions.specs.Words.{part}
 use Rattle.definitions.specs.Layout.{cells}
-use Rattle.laws.specs.Cells.{cells_few}
+use Rattle.laws.proofs.Cells.{cells_few}
 use Rattle.integers.specs.Bits.{stored, read}
 use Rattle.observations.specs.Arrays
-use Rattle.laws.specs.RunningSums.{summed_none, summed_next}
+use Rattle.laws.proofs.RunningSums.{summed_none, summed_next}
 use Rattle.figures.specs.Sums.{Logs, last_cell, ratio_of}
 use Rattle.figures.specs.SumLaws.{row_at, last_cell_below, ratio_of_small, sum_small}
 use mir.Facts.{to_z_pos}

@@ -10,7 +10,8 @@ use mir.Facts.{to_z_pos}
 use Rattle.integers.specs.Size.{fits, kept, nat_abs-+, nat_abs--, nat_abs-*-≤}
 use Rattle.definitions.specs.Words.{part}
 use Rattle.definitions.specs.Matrix.{part_by_index}
-use Rattle.laws.specs.Ranks.{rank_of, rank_below}
+use Rattle.laws.specs.Ranks.{rank_of}
+use Rattle.laws.proofs.Ranks.{rank_below}
 use Rattle.integers.specs.Bits.{stored, read}
 use Rattle.observations.specs.Arrays.{at, mean_at, prior_at}
 use Rattle.figures.specs.SumLaws.{target_phi, target_psi}

@@ -3,7 +3,7 @@ use Prim.Native.Nat.{◌-◌, ◌<◌}
 use mathlib.Core.Path.{◌∙◌}
 use native.Mathlib.Omega.{arith}
 use lib.IntN.{pos}
-use Rattle.laws.specs.Filled.{filled_none, filled_next, filled_to}
+use Rattle.laws.proofs.Filled.{filled_none, filled_next, filled_to}
 use Rattle.integers.specs.Bits.{same}
 use Rattle.figures.proofs.right_hand.right_hand_of.Goals as goal
 

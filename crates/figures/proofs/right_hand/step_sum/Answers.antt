@@ -11,7 +11,7 @@ use Rattle.integers.specs.Size.{fits, kept}
 use Rattle.integers.specs.Sum.{sum, sum_zero, sum_next}
 use Rattle.definitions.specs.Words.{part}
 use Rattle.definitions.specs.Layout.{cells, row_start}
-use Rattle.laws.specs.Cells.{cells_few}
+use Rattle.laws.proofs.Cells.{cells_few}
 use Rattle.integers.specs.Bits.{stored, read, same}
 use Rattle.observations.specs.Arrays
 use Rattle.observations.specs.Arrays.{mark_at}

@@ -4,7 +4,7 @@ use mathlib.Core.Path.{refl}
 use native.Mathlib.Nat.{mul-le-mul}
 use native.Mathlib.Omega.{arith}
 use Rattle.definitions.specs.Layout.{parts}
-use Rattle.laws.specs.Filled.{filled_none, filled_next, filled_to}
+use Rattle.laws.proofs.Filled.{filled_none, filled_next, filled_to}
 use Rattle.observations.specs.Arrays.{at, prior_at}
 use Rattle.figures.proofs.weights.own_weights.Goals as goal
 use Rattle.figures.proofs.weights.own_weights.Goals.{In-loop-k}

@@ -10,7 +10,7 @@ use Rattle.integers.specs.Total.{total_bound, sum_size}
 use mir.Syntax.{w64}
 use mir.Val.{to_z}
 use Rattle.observations.specs.Arrays.{ratio_at}
-use Rattle.laws.specs.RunningSums.{summed_none, summed_next}
+use Rattle.laws.proofs.RunningSums.{summed_none, summed_next}
 use Rattle.figures.proofs.weights.shares.Goals as goal
 use Rattle.figures.proofs.weights.shares.Goals.{After-total-1}
 

@@ -5,7 +5,7 @@ use native.Mathlib.Omega.{arith}
 use lib.IntN.{pos}
 use Rattle.integers.specs.Bits.{same}
 use Rattle.definitions.specs.Words.{part}
-use Rattle.laws.specs.Filled.{filled_none, filled_next, filled_to}
+use Rattle.laws.proofs.Filled.{filled_none, filled_next, filled_to}
 use Rattle.observations.specs.Inside.{tick_within}
 use Rattle.observations.proofs.inside.ticks_inside.Goals as goal
 

@@ -6,7 +6,7 @@ use lib.IntN.{ℤ, pos}
 use lib.Signed.{mag}
 use Rattle.definitions.specs.Layout.{last_year}
 use Rattle.definitions.specs.Logarithm.{logarithm}
-use Rattle.laws.specs.Cells.{cells_few}
+use Rattle.laws.proofs.Cells.{cells_few}
 use Rattle.integers.specs.Bits.{stored, same}
 use Rattle.observations.specs.ReadLaws.{cells_four}
 use Rattle.observations.proofs.logarithms.four_cells.Goals as goal

@@ -5,7 +5,7 @@ use native.Mathlib.Omega.{arith}
 use lib.IntN.{pos}
 use Rattle.definitions.specs.Layout.{last_year, cells}
 use Rattle.definitions.specs.Logarithm.{logarithm}
-use Rattle.laws.specs.Cells.{cells_few}
+use Rattle.laws.proofs.Cells.{cells_few}
 use Rattle.integers.specs.Bits.{same}
 use Rattle.observations.specs.ReadLaws.{cells_none, cells_next, cells_to}
 use Rattle.observations.proofs.logarithms.read_logarithms.Goals as goal

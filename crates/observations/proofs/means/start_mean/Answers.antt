@@ -4,7 +4,7 @@ use native.Mathlib.Omega.{arith}
 use lib.IntN.{pos}
 use Rattle.integers.specs.Bits.{read}
 use Rattle.definitions.specs.Layout.{parts}
-use Rattle.laws.specs.Filled.{filled_none, filled_next, filled_to}
+use Rattle.laws.proofs.Filled.{filled_none, filled_next, filled_to}
 use Rattle.observations.specs.Arrays.{mean_at}
 use Rattle.observations.proofs.means.start_mean.Goals as goal
 use Rattle.observations.proofs.means.start_mean.Goals.{In-loop-k}

@@ -3,8 +3,8 @@ use Prim.Native.Nat.{◌-◌, ◌<◌}
 use mathlib.Core.Path.{ap, ◌∙◌}
 use native.Mathlib.Omega.{arith}
 use Rattle.definitions.specs.Kept.{steps_of}
-use Rattle.laws.specs.Filled.{filled_none, filled_next, filled_to}
-use Rattle.laws.specs.Marks.{steps_few}
+use Rattle.laws.proofs.Filled.{filled_none, filled_next, filled_to}
+use Rattle.laws.proofs.Marks.{steps_few}
 use Rattle.observations.specs.Arrays.{unmarked}
 use Rattle.observations.proofs.strikes.left_in.Goals as goal
 use Rattle.observations.proofs.strikes.left_in.Goals.{In-loop-k}

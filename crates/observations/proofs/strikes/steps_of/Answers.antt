@@ -1,6 +1,6 @@
 -- `observations::strikes::steps_of` meets its contract: an index up to J is a Φ, and one above is a Ψ.
 use mathlib.Core.Path.{sym}
-use Rattle.laws.specs.Marks.{steps_phi, steps_psi}
+use Rattle.laws.proofs.Marks.{steps_phi, steps_psi}
 use Rattle.observations.proofs.strikes.steps_of.Goals as goal
 
 pub returns-then-k-years : goal.returns-then-k-years

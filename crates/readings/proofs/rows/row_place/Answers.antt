@@ -5,7 +5,7 @@ use mathlib.Core.Path.{◌≡◌, ap, ap₂, ◌∙◌}
 use Prim.Native.Nat.{ℕ, ◌+◌, ◌*◌, ◌-◌, ◌≤◌}
 use lib.ListN.{length}
 use Rattle.definitions.specs.Layout.{last_year, cells, row_start, amount_at, row_length}
-use Rattle.laws.specs.Cells.{row_in_block, blocks_end}
+use Rattle.laws.proofs.Cells.{row_in_block, blocks_end}
 use Rattle.readings.proofs.rows.row_place.Goals as goal
 use Rattle.readings.proofs.rows.row_place.Goals.{After-cells_of, After-row_start}
 

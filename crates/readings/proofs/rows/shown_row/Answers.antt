@@ -5,7 +5,7 @@ use Prim.Native.Nat.{ℕ, ◌+◌, ◌*◌, ◌-◌, ◌≤◌}
 use lib.ListN.{length, length-take, length-drop}
 use lib.Dec.{eqb}
 use Rattle.definitions.specs.Layout.{last_year, cells, row_start, amount_at}
-use Rattle.laws.specs.Cells.{row_in_block, blocks_end}
+use Rattle.laws.proofs.Cells.{row_in_block, blocks_end}
 use Rattle.readings.proofs.Parts.{row_bytes_lem}
 use Rattle.readings.proofs.rows.shown_row.Goals as goal
 use Rattle.readings.proofs.rows.shown_row.Goals.{After-cells_of, After-row_start-first}

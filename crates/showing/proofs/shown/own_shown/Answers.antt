@@ -2,7 +2,7 @@
 use Prim.Native.Nat.{◌<◌}
 use mathlib.Core.Path.{refl}
 use native.Mathlib.Omega.{arith}
-use Rattle.laws.specs.Filled.{filled_none, filled_next, filled_to}
+use Rattle.laws.proofs.Filled.{filled_none, filled_next, filled_to}
 use Rattle.showing.specs.Shown.{filled_is}
 use Rattle.showing.proofs.shown.own_shown.Goals as goal
 use Rattle.showing.proofs.shown.own_shown.Goals.{In-loop-k}

@@ -2,7 +2,7 @@
 use Prim.Native.Nat.{◌<◌}
 use native.Mathlib.Omega.{arith}
 use lib.IntN.{pos}
-use Rattle.laws.specs.Filled.{filled_none, filled_next, filled_to}
+use Rattle.laws.proofs.Filled.{filled_none, filled_next, filled_to}
 use Rattle.integers.specs.Bits.{same}
 use Rattle.showing.specs.Shown.{filled_is}
 use Rattle.showing.proofs.shown.right_hand_shown.Goals as goal

@@ -8,7 +8,7 @@ use lib.Dec.{eqb}
 use Rattle.definitions.specs.Strikes.{step, is_step, left_beside}
 use Rattle.definitions.specs.Layout.{parts}
 use Rattle.definitions.specs.Kept.{steps_of, part_of_step}
-use Rattle.laws.specs.Marks.{steps_few}
+use Rattle.laws.proofs.Marks.{steps_few}
 use Rattle.observations.specs.Arrays.{at, unmarked}
 use Rattle.striking.specs.Steps.{OfStep, mark_of}
 use Rattle.striking.specs.StepLaws.{placed, mark_inside, left_counted, no_channel, no_step, struck_already, last_left, may_strike}

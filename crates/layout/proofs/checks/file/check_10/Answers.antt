@@ -7,7 +7,7 @@ use borrow.Author.Tests.{eq-eqb, ne_eqb}
 use lib.ListN.{length}
 use Rattle.definitions.specs.Layout.{Bytes, unsigned, last_year, cells, paid_at, incurred_at, paid, incurred}
 use Rattle.definitions.specs.Refusals.{check10, refuses}
-use Rattle.laws.specs.Cells.{row_start_is, row_in_block}
+use Rattle.laws.proofs.Cells.{row_start_is, row_in_block}
 use Rattle.layout.specs.Checks.{Whole}
 use Rattle.layout.specs.Places.{amount_inside}
 use Rattle.fields.specs.Fields.{field_read, field_outside}

@@ -5,7 +5,7 @@ use Prim.Native.Nat.{ℕ, ◌+◌, ◌*◌}
 use native.Mathlib.Omega.{arith}
 use Rattle.definitions.specs.Layout.{last_year, cells, amount_at}
 use Rattle.definitions.specs.Refusals.{check9}
-use Rattle.laws.specs.Cells.{blocks_end}
+use Rattle.laws.proofs.Cells.{blocks_end}
 use Rattle.layout.specs.Places.{amount_inside}
 use Rattle.layout.specs.CheckLaws.{unsigned_run_lem}
 use Rattle.layout.proofs.checks.file.check_9.Goals as goal
