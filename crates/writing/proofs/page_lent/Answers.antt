@@ -10,8 +10,8 @@ use Rattle.definitions.specs.Layout.{parts}
 use Rattle.definitions.specs.Matrix.{passes}
 use Rattle.definitions.specs.Page.{page_length}
 use Rattle.definitions.specs.Machine.{page_in}
-use Rattle.laws.specs.Tables.{tab_at}
-use Rattle.laws.specs.Pages.{page_cong}
+use Rattle.laws.proofs.Tables.{tab_at}
+use Rattle.laws.proofs.Pages.{page_cong}
 use Rattle.chain.specs.Arrays.{figures_of, mean_of}
 use Rattle.holding.specs.State.{Held, Fits, held_at}
 use Rattle.holding.specs.Fitted.{frame}

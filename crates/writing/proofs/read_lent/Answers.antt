@@ -9,7 +9,7 @@ use Rattle.definitions.specs.Words.{part}
 use Rattle.definitions.specs.Layout.{parts, record_length}
 use Rattle.definitions.specs.Matrix.{passes}
 use Rattle.definitions.specs.Machine.{record_in}
-use Rattle.laws.specs.Tables.{tab_at}
+use Rattle.laws.proofs.Tables.{tab_at}
 use Rattle.records.specs.Records.{record_cong}
 use Rattle.chain.specs.Arrays.{figures_of, mean_of}
 use Rattle.holding.specs.State.{Held, Fits, held_at}

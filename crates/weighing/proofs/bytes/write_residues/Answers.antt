@@ -9,7 +9,7 @@ use lib.ListN.{drop}
 use Rattle.integers.specs.Bits.{same}
 use Rattle.definitions.specs.Words.{part}
 use Rattle.definitions.specs.Layout.{parts, complement, number_bytes}
-use Rattle.laws.specs.NumberBytes.{with_numbers, put_none, put_next}
+use Rattle.laws.proofs.NumberBytes.{with_numbers, put_none, put_next}
 use Rattle.weighing.proofs.bytes.write_residues.Goals as goal
 use Rattle.weighing.proofs.bytes.write_residues.Goals.{In-loop-k}
 

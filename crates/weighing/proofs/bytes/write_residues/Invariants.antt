@@ -3,7 +3,7 @@
 use Prim.Native.Nat.{◌-◌, ◌≤◌}
 use mathlib.Core.Path.{◌≡◌}
 use lib.ListN.{length}
-use Rattle.laws.specs.NumberBytes.{with_numbers}
+use Rattle.laws.proofs.NumberBytes.{with_numbers}
 use Rattle.weighing.proofs.bytes.write_residues.Given as goal
 
 abbrev pub invariant-loop-k : goal.invariant-loop-k
