@@ -75,7 +75,8 @@ module _ (e : ℕ) (own : List ℕ) (v : List ℤ) (k n : ℕ) where
   abbrev by : Bool → D.Judgement
   by passing = cond passing (test_from e own v (suc k) (n - (k + 1))) (fails k)
 
-  pub test_next : k < n → {s : ℕ} → s ≡ nat_abs (part v k) → s ≤ bound → test_from e own v k (n - k) ≡ test_from e own v (k + 1) (n - (k + 1))
+  pub test_next : k < n → {s : ℕ} → s ≡ nat_abs (part v k) → s ≤ bound
+      → test_from e own v k (n - k) ≡ test_from e own v (k + 1) (n - (k + 1))
   unfolding test_from
   test_next below size small =
       let more : n - k ≡ suc (n - (k + 1)) = omega arith in

@@ -2,7 +2,6 @@
 -- priors, F with the largest amounts, central ultimates, struck steps and residues by observations, together, computed from the
 -- definitions.
 use Rattle.std.specs.Prelude.{◌^◌, ◌≡◌, true, false, [], ◌∷◌, ◌++◌, pos, negsuc, replicate}
-use Rattle.integers.specs.Summation.{total}
 use Rattle.definitions.specs.Words.{part}
 use Rattle.definitions.specs.Logarithm.{logarithm}
 use Rattle.definitions.specs.Weight.{weight}
@@ -10,7 +9,6 @@ use Rattle.definitions.specs.Layout.{record_of, number_bytes}
 use Rattle.definitions.specs.Refusals.{refuses, file_check}
 use Rattle.definitions.specs.Refusals.{accepted}
 use Rattle.definitions.specs.Matrix.{Φ, Ψ, figures_of, own, matrix, right_hand_side, passed, fails, judgement}
-use Rattle.definitions.specs.Loss.{ratio}
 use Rattle.definitions.specs.Strikes.{step, unstruck, chain_left, figures_left}
 use Rattle.definitions.specs.Text.{ascii}
 use Rattle.definitions.specs.Page.{page_line, page_of}
@@ -163,7 +161,8 @@ pub record JointTable : Type 0 where
   pub strike_channel : (strike_of (unstruck (file_F 1)) (step 2 9 9)).answer ≡ refused 14 0
   pub strike_behind : (strike_of (unstruck (file_F 1)) (step 0 2 0)).answer ∷ (strike_of (unstruck (file_F 1)) (step 0 1 1)).answer ∷ []
       ≡ refused 26 0 ∷ refused 26 0 ∷ []
-  pub strike_behind_incurred : (strike_of (unstruck (file_F 1)) (step 1 1 0)).answer ∷ (strike_of (unstruck (file_F 1)) (step 1 0 1)).answer ∷ []
+  pub strike_behind_incurred : (strike_of (unstruck (file_F 1)) (step 1 1 0)).answer ∷ (strike_of (unstruck (file_F 1)) (step 1 0 1)).answer
+      ∷ []
       ≡ refused 26 0 ∷ refused 26 0 ∷ []
   pub strike_alone : (strike_of (unstruck (file_F 1)) (step 0 0 1)).answer ∷ (strike_of (unstruck (file_F 1)) (step 1 0 0)).answer ∷ []
       ≡ refused 27 0 ∷ refused 27 0 ∷ []
@@ -198,7 +197,8 @@ pub record JointTable : Type 0 where
       residues_call chain_left empty [] (165 ∷ []) ≡ record { answer = refused 21 0; state = empty; buffer = 165 ∷ [] }
   pub residues_length_lem : ((residues_of_F [] 23).answer ≡ refused 1 0) × ((residues_of_F longer_F 23).answer ≡ refused 1 0)
       × ((residues_of_F (0 ∷ longer_versioned_F) 23).answer ≡ refused 1 0)
-  pub residues_version : ((residues_of_F versioned_F 23).answer ≡ refused 2 4) × ((residues_of_F longer_versioned_F 23).answer ≡ refused 2 4)
+  pub residues_version : ((residues_of_F versioned_F 23).answer ≡ refused 2 4)
+      × ((residues_of_F longer_versioned_F 23).answer ≡ refused 2 4)
   pub residues_years : (residues_of_F record_of_three 23).answer ≡ refused 4 0
   pub residues_part : (residues_of_F above_F 23).answer ≡ refused 11 9
   pub residues_short : residues_of_F record_F 23 ≡ record {

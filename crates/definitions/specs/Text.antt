@@ -65,7 +65,8 @@ read_digits sign t = cond (are_digits t) (some (sign (spelt 0 t))) none
 -- spaces, `-` where it is below zero, and digits up to the end; anything else is no number
 unfoldable pub read_number : Bytes → Option ℤ
 read_number [] = none
-read_number (x ∷ xs) = cond (eqb x space) (read_number xs) (cond (eqb x minus) (read_digits (λ n. neg_ℤ (pos n)) xs) (read_digits pos (x ∷ xs)))
+read_number (x ∷ xs) =
+    cond (eqb x space) (read_number xs) (cond (eqb x minus) (read_digits (λ n. neg_ℤ (pos n)) xs) (read_digits pos (x ∷ xs)))
 
 -- ---- parts and lines
 

@@ -41,7 +41,8 @@ module _ (J : ℕ) (o : Observations) where
   abbrev c : Chain
   c = left_in J o
 
-  pub prior_weight_is : (k : ℕ) → k < parts J → brought_within 0 (2 ^ 28) (prior_at o.weights k) ≡ prior_weight_of (left_in J o) (part_by_index J k)
+  pub prior_weight_is : (k : ℕ) → k < parts J
+      → brought_within 0 (2 ^ 28) (prior_at o.weights k) ≡ prior_weight_of (left_in J o) (part_by_index J k)
   prior_weight_is =
       by_part J (λ k. brought_within 0 (2 ^ 28) (prior_at o.weights k) ≡ prior_weight_of c (part_by_index J k))
       (λ j few. sym (ap (prior_weight_of c) (part_by_index_phi J j few) ∙ prior_at_lem J o j (omega arith)))
@@ -59,10 +60,12 @@ module _ (J : ℕ) (o : Observations) where
   whole_weight i =
       by_part J (λ k. weight_of (chain_in J (observed_in J o)) (part_by_index J k) i ≡ brought_within 1 (2 ^ 28) (at o.weights k))
       (λ j few. ap (λ a. weight_of (chain_in J (observed_in J o)) a i) (part_by_index_phi J j few) ∙ weight_at J o j (omega arith))
-      (λ j below. ap (λ a. weight_of (chain_in J (observed_in J o)) a i) (part_by_index_psi J j) ∙ weight_at J o (psi_index J j) (omega arith))
+      (λ j below. ap (λ a. weight_of (chain_in J (observed_in J o)) a i) (part_by_index_psi J j)
+      ∙ weight_at J o (psi_index J j) (omega arith))
 
   unstruck_weight : (i : ℕ) (a : Part)
-      → weight_of c a i ≡ cond (marked J (struck_in J o) (step (channel_of a) i (column_of a))) 0 (weight_of (chain_in J (observed_in J o)) a i)
+      → weight_of c a i
+      ≡ cond (marked J (struck_in J o) (step (channel_of a) i (column_of a))) 0 (weight_of (chain_in J (observed_in J o)) a i)
   unstruck_weight i (Φ j) = refl
   unstruck_weight i (Ψ j) = refl
 
@@ -170,7 +173,8 @@ module _ (J : ℕ) (o : Observations) (years : J ≤ 15) where
       by_kind (Φ j) few = bounded.prior_Φ_to j few
       by_kind (Ψ j) below = bounded.prior_Ψ_to j below
 
-  pub observation_small : (k i : ℕ) → k < parts J → i < steps_of J k → nat_abs (observation_of (left_in J o) (part_by_index J k) i) ≤ observed_limit
+  pub observation_small : (k i : ℕ) → k < parts J → i < steps_of J k
+      → nat_abs (observation_of (left_in J o) (part_by_index J k) i) ≤ observed_limit
   observation_small k i below there = by_kind (part_by_index J k) (is_part J k below) there
     where
       by_kind : (a : Part) → IsPart J a → i < steps_in J (channel_of a) (column_of a) → nat_abs (observation_of d a i) ≤ observed_limit
@@ -190,7 +194,8 @@ module _ (J : ℕ) (o : Observations) (years : J ≤ 15) where
         let weight = prior_weight_is J o k below in
         omega (
           arith,
-          term_small (prior_weight_of d (part_by_index J k)) v (prior_mean_of d (part_by_index J k)) {m = 2 ^ 28} (omega (arith, weight)) small
+          term_small (prior_weight_of d (part_by_index J k)) v (prior_mean_of d (part_by_index J k)) {m = 2 ^ 28}
+              (omega (arith, weight)) small
               (prior_mean_small k below),
         )
 
@@ -268,7 +273,8 @@ module _ (J : ℕ) (o : Observations) (mean : List ℤ) where
       (ratios_are (j + 1) few)
 
   pub residue_is : (k : ℕ) → k < parts J → (shared : List ℤ) → ((n : ℕ) → n ≤ J → part shared n ≡ sum n (ratio_term (left_in J o) mean))
-      → prior_term (left_in J o) (part_by_index J k) (part mean k) +ℤ sum (steps_of J k) (step_term (left_in J o) (part_by_index J k) (part mean k))
+      → prior_term (left_in J o) (part_by_index J k) (part mean k)
+      +ℤ sum (steps_of J k) (step_term (left_in J o) (part_by_index J k) (part mean k))
       +ℤ sign_of (part_by_index J k) *ℤ part shared (rank_of (part_by_index J k))
       ≡ observed_times (left_in J o) 1 (part mean) k
   unfolding observed_times

@@ -75,7 +75,8 @@ pub record OfPrior (last k : ℕ) (v : ℤ) : Type 0 where
   pub small : nat_abs v ≤ part_limit
 
 pub record PriorMissed (ticks : List ℤ) (weights : List ℕ) (last k : ℕ) (v r : ℤ) : Type 0 where
-  pub is : (variances struck : List ℕ) → r ≡ prior_term (left_in last (observations_at ticks weights variances struck)) (part_by_index last k) v
+  pub is : (variances struck : List ℕ)
+      → r ≡ prior_term (left_in last (observations_at ticks weights variances struck)) (part_by_index last k) v
 
 pub record OfSteps (starts : List ℕ) (last k : ℕ) (v : ℤ) : Type 0 where
   pub of_part : OfPrior last k v

@@ -10,7 +10,9 @@ use Rattle.observations.specs.Arrays.{at}
 
 -- the matrix by ranks, of arrays: what two parts share, and on the diagonal the own weight besides
 abbrev pub share_of : List ℤ → ℕ → ℕ → ℕ → ℤ
-share_of shares J k l = sign_of (part_by_index J k) *ℤ sign_of (part_by_index J l) *ℤ part shares (min (rank_of (part_by_index J k)) (rank_of (part_by_index J l)))
+share_of shares J k l =
+    sign_of (part_by_index J k) *ℤ sign_of (part_by_index J l)
+    *ℤ part shares (min (rank_of (part_by_index J k)) (rank_of (part_by_index J l)))
 
 unfoldable pub entry_of : List ℕ → List ℤ → ℕ → ℕ → ℕ → ℤ
 entry_of own shares J k l = only (eqb k l) (pos (at own k)) +ℤ share_of shares J k l

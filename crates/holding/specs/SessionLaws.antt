@@ -24,7 +24,8 @@ module _ (o : Observations) (s : Held) where
   unfolding outcome
   judge_session r = ap (answers (session_state o s)) (judge_alike (kept_with o) alone (λ x. x.figures) (λ F. refl) (state_of s) r)
 
-  pub sweep_session : (n : ℕ) → outcome in_session (session_state o s) (sweep n) ≡ map_outcome (kept_with o) (sweep_call alone (state_of s) n)
+  pub sweep_session : (n : ℕ)
+      → outcome in_session (session_state o s) (sweep n) ≡ map_outcome (kept_with o) (sweep_call alone (state_of s) n)
   unfolding outcome
   sweep_session n = sweep_alike (kept_with o) alone (λ x. x.figures) (λ F. refl) (state_of s) n
 
@@ -33,7 +34,8 @@ module _ (o : Observations) (s : Held) where
   write_session size text b = write_alike (kept_with o) alone (λ x. x.figures) (λ F. refl) size text (state_of s) b
 
   pub read_session : (b : Bytes)
-      → outcome in_session (session_state o s) (read b) ≡ map_outcome (kept_with o) (write_call alone record_length record_in (state_of s) b)
+      → outcome in_session (session_state o s) (read b)
+      ≡ map_outcome (kept_with o) (write_call alone record_length record_in (state_of s) b)
   unfolding outcome
   read_session = write_session record_length record_in
 

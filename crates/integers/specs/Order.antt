@@ -1,6 +1,7 @@
 -- The order of ℤ: a linear order that sums keep, and products by what is not negative. `≤ℤ_refl`, `<ℤ-≤ℤ_trans`, `<ℤ_irrefl` and
 -- `clash_ℤ` are in `lib.Signed`. What is linear needs no law: see `Linear`.
-use Rattle.std.specs.Prelude.{◌≡◌, refl, ◌↔◌, ◌≢◌, ◌⊎◌, Bool, true, false, not, [], ◌∷◌, ℕ, suc, ◌*◌, ◌≤◌, ◌<◌, T, ℤ, pos, negsuc, neg_ℤ, nat_abs, ◌+ℤ◌, ◌-ℤ◌, ◌*ℤ◌, ◌≤ℤ◌, ◌<ℤ◌}
+use Rattle.std.specs.Prelude.{◌≡◌, refl, ◌↔◌, ◌≢◌, ◌⊎◌, Bool, true, false, not, [], ◌∷◌, ℕ, suc, ◌*◌, ◌≤◌, ◌<◌, T, ℤ, pos, negsuc, neg_ℤ, nat_abs, ◌+ℤ◌, ◌-ℤ◌}
+use Rattle.std.specs.Prelude.{◌*ℤ◌, ◌≤ℤ◌, ◌<ℤ◌}
 use Rattle.std.proofs.Common.{sym, ap, subst, inl, inr, ⊎_elim, zero-le, suc-le-suc, mul-pos, arith}
 use Rattle.std.specs.Int.Signed.{lt_z, lt_z_yes, lt_z_no, yes_non_neg, pos-nat_abs}
 use Rattle.integers.specs.Linear.{linear, zarith}

@@ -53,7 +53,8 @@ is_add {x = negsuc m} {y = negsuc n} h k = record { cross = omega arith }
 pub is_sub : {x y : ℤ} {a b c d : ℕ} → Is x a b → Is y c d → Is (x -ℤ y) (a + d) (b + c)
 is_sub h k = is_add h (is_neg k)
 
-is_mul_parts : (x y : ℤ) → Is (x *ℤ y) (pos_part x * pos_part y + neg_part x * neg_part y) (pos_part x * neg_part y + neg_part x * pos_part y)
+is_mul_parts : (x y : ℤ)
+    → Is (x *ℤ y) (pos_part x * pos_part y + neg_part x * neg_part y) (pos_part x * neg_part y + neg_part x * pos_part y)
 is_mul_parts (pos m) (pos n) = record { cross = omega arith }
 is_mul_parts (pos m) (negsuc n) = is_shift (is_neg (is (pos (m * suc n)))) (omega arith)
 is_mul_parts (negsuc m) (pos n) = is_shift (is_neg (is (pos (suc m * n)))) (omega arith)

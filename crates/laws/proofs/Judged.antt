@@ -15,7 +15,8 @@ use Rattle.definitions.specs.Words.{tab_from, part}
 use Rattle.definitions.specs.Layout.{parts}
 use Rattle.definitions.specs.Loss.{Vector}
 use Rattle.definitions.specs.Observations.{Chain}
-use Rattle.definitions.specs.Matrix.{own, matrix, right_hand_side, residue_times, Figures, figures_from, entry, residue, part_passes, judge_from, fails, is_passed, passes}
+use Rattle.definitions.specs.Matrix.{own, matrix, right_hand_side, residue_times, Figures, figures_from, entry, residue, part_passes, judge_from, fails}
+use Rattle.definitions.specs.Matrix.{is_passed, passes}
 use Rattle.laws.proofs.Tables.{tab_at}
 
 -- ---- passed, part by part

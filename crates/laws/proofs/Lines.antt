@@ -1,7 +1,8 @@
 -- Texts of lines: how long they are, where each line stands, and that lines which end alike are told apart.
 use Prim.Native.Nat.{ℕ, zero, suc, ◌+◌, ◌*◌, ◌≤◌, ◌<◌}
 use Rattle.std.specs.Prelude.{◌≡◌, refl, ◌⊎◌, [], ◌∷◌, ◌++◌, take, drop, get_or}
-use Rattle.std.proofs.Common.{sym, ap, ap₂, ◌∙◌, inl, inr, append_assoc, append-nil, eq-or-lt_of_le, mul-suc, mul-le-mul_left, add-one, length-drop, take_all, drop_at}
+use Rattle.std.proofs.Common.{sym, ap, ap₂, ◌∙◌, inl, inr, append_assoc, append-nil, eq-or-lt_of_le, mul-suc, mul-le-mul_left, add-one, length-drop, take_all}
+use Rattle.std.proofs.Common.{drop_at}
 use native.Mathlib.Omega.{arith}
 use Rattle.std.proofs.Math.ListN.{length, length-append}
 use Rattle.std.proofs.lemmas.List.{take-append-le, drop-append-le}

@@ -5,7 +5,8 @@
 -- After each squaring y and the bits l so far bracket the power p of the amount: 2^l·y ≤ p·N, and p·N·N^c ≤ 2^l·y·(N + 1)^c, where
 -- N is 2^31 and c counts the roundings so far, of which a squaring doubles those before it and adds one.
 use Rattle.std.specs.Prelude.{ℕ, zero, suc, ◌+◌, ◌*◌, ◌-◌, ◌/◌, ◌^◌, ◌≤◌, ◌<◌, ◌≡◌, refl, Bool, not, cond, T, leb}
-use Rattle.std.proofs.Common.{sym, ap, ◌∙◌, subst, mul-zero, mul-suc, le_trans, le_of_eq, lt_of_lt_of_le, mul-le-mul, mul-le-mul_left, mul-le-mul_right, div-mul-le_self, le-div_iff_mul-le, div-lt_iff_lt-mul, pow-suc, leb→le, lit<, pow-add, pow_pos, pow_mono}
+use Rattle.std.proofs.Common.{sym, ap, ◌∙◌, subst, mul-zero, mul-suc, le_trans, le_of_eq, lt_of_lt_of_le, mul-le-mul, mul-le-mul_left, mul-le-mul_right}
+use Rattle.std.proofs.Common.{div-mul-le_self, le-div_iff_mul-le, div-lt_iff_lt-mul, pow-suc, leb→le, lit<, pow-add, pow_pos, pow_mono}
 use Rattle.std.proofs.Math.Bool.{true, false}
 use Rattle.std.proofs.Math.Nat.{le_of_mul-le-mul_left, lt_of_mul-lt-mul_left, lt-div-mul-add, pow-zero, pow-le-pow_left, one-le-pow, two-pow-succ}
 use native.Mathlib.Omega.{arith, by_contra}

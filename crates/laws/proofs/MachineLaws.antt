@@ -17,7 +17,8 @@ use Rattle.definitions.specs.Sweep.{sweep_limit}
 use Rattle.definitions.specs.Ultimate.{Latest, latest_of, ultimate_of}
 use Rattle.definitions.specs.Machine.{Call, open_file, judge, sweep, read, page, ultimate, strike, residues, row, row_told, close}
 use Rattle.definitions.specs.Machine.{refused, ultimate_is, State, empty, holds, map_state, Keeping, Outcome, answers, open_unless, strike_unless, the_file}
-use Rattle.definitions.specs.Machine.{open_call, judge_call, sweep_call, write_call, record_in, page_in, ultimate_call, strike_call, writes_unless, residues_call}
+use Rattle.definitions.specs.Machine.{open_call, judge_call, sweep_call, write_call, record_in, page_in, ultimate_call, strike_call, writes_unless}
+use Rattle.definitions.specs.Machine.{residues_call}
 use Rattle.definitions.specs.Machine.{outcome, outcomes}
 use Rattle.definitions.specs.Kept.{observed_of, kept_of, latest_in, in_session}
 use Rattle.laws.proofs.Accepted.{within_yes}

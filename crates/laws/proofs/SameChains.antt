@@ -6,7 +6,8 @@ use Rattle.integers.specs.Sum.{sum_cong}
 use Rattle.integers.specs.Total.{total_cong}
 use Rattle.definitions.specs.Layout.{parts}
 use Rattle.definitions.specs.Observations.{Chain}
-use Rattle.definitions.specs.Matrix.{Part, Φ, Ψ, part_by_index, own_of, own, shared_by, between, matrix, ratios_of_last, target_of, right_hand_side, figures_from}
+use Rattle.definitions.specs.Matrix.{Part, Φ, Ψ, part_by_index, own_of, own, shared_by, between, matrix, ratios_of_last, target_of, right_hand_side}
+use Rattle.definitions.specs.Matrix.{figures_from}
 use Rattle.laws.proofs.Ranks.{part_by_index_phi, part_by_index_psi, by_part}
 use Rattle.laws.proofs.Tables.{tab_cong}
 use Rattle.laws.specs.SameChains.{SameChain}

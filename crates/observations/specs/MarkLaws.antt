@@ -45,7 +45,8 @@ module _ (J : ℕ) where
       turned false true = refl
       turned false false = refl
 
-      by_kinds : (p q : Part) → same_step (step (channel_of p) b (column_of p)) (step (channel_of q) i (column_of q)) ≡ same_part p q && eqb b i
+      by_kinds : (p q : Part)
+          → same_step (step (channel_of p) b (column_of p)) (step (channel_of q) i (column_of q)) ≡ same_part p q && eqb b i
       by_kinds (Φ n) (Φ m) = turned (eqb b i) (eqb n m)
       by_kinds (Ψ n) (Ψ m) = turned (eqb b i) (eqb n m)
       by_kinds (Φ n) (Ψ m) = refl
@@ -60,7 +61,8 @@ module _ (J : ℕ) (o : Observations) where
   pub marked_at : (k i : ℕ) → k < parts J → i < steps_of J k → marked J (struck_in J o) (step_of J k i) ≡ struck_at J o.struck k i
   unfolding marked struck_in
   marked_at k i below there =
-      ap (λ n. get_or (get_or (tab_from 0 (parts J) (λ k. tab_from 0 (steps_of J k) (struck_at J struck k))) n []) i false) (part_back J i k below)
+      ap (λ n. get_or (get_or (tab_from 0 (parts J) (λ k. tab_from 0 (steps_of J k) (struck_at J struck k))) n []) i false)
+      (part_back J i k below)
       ∙ ap (λ row. get_or row i false) (tab_at (parts J) (λ k. tab_from 0 (steps_of J k) (struck_at J struck k)) k [] below)
       ∙ tab_at (steps_of J k) (struck_at J struck k) i false there
 
@@ -87,7 +89,8 @@ module _ (J : ℕ) (o : Observations) where
       left_of_lem : (k : ℕ) {a : Part} → k < parts J → part_by_index J k ≡ a
           → 1 ≤ left_of (steps_in J (channel_of a) (column_of a)) (λ i. marked J (struck_in J o) (step (channel_of a) i (column_of a)))
       left_of_lem k below is-a =
-          subst (λ a. 1 ≤ left_of (steps_in J (channel_of a) (column_of a)) (λ i. marked J (struck_in J o) (step (channel_of a) i (column_of a))))
+          subst (λ a. 1
+          ≤ left_of (steps_in J (channel_of a) (column_of a)) (λ i. marked J (struck_in J o) (step (channel_of a) i (column_of a))))
           is-a (part_left k below)
 
 -- ---- marks inside their limits
@@ -164,7 +167,8 @@ marks_kept J o struck h are =
             → 1 ≤ left_of (steps_in J (channel_of a) (column_of a)) (λ i. struck (step (channel_of a) i (column_of a)))
             → 1 ≤ left_of (steps_of J k) (λ i. struck (step_of J k i))
         back k is-a some =
-            subst (λ a. 1 ≤ left_of (steps_in J (channel_of a) (column_of a)) (λ i. struck (step (channel_of a) i (column_of a)))) (sym is-a) some
+            subst (λ a. 1 ≤ left_of (steps_in J (channel_of a) (column_of a)) (λ i. struck (step (channel_of a) i (column_of a))))
+            (sym is-a) some
 
     some_left : (k : ℕ) → k < parts J → eqb (unmarked o.struck k (steps_of J k)) 0 ≡ false
     some_left k below = ne_eqb (unmarked o.struck k (steps_of J k)) 0 (λ none. omega (arith, none, counted k below, each k below))

@@ -84,7 +84,8 @@ module _ (f : Bytes) (passed : file_check f ≡ clear) {ticks : List ℤ} {weigh
     mean_is : mean_of J mean ≡ tab_from 0 (parts J) (prior_mean f)
     mean_is = tab_cong 0 (parts J) (λ k from below. part_is k (omega arith))
 
-    pub done : (s : Held) (before : Observations) → ¬ Fits s → Opens s before f Opened after (observations_at ticks weights variances struck)
+    pub done : (s : Held) (before : Observations) → ¬ Fits s
+        → Opens s before f Opened after (observations_at ticks weights variances struck)
     done s before closed =
         opens_done s before f closed passed after (observations_at ticks weights variances struck) after_fits same
         (kept f known o) (none_kept f known o) mean_is refl

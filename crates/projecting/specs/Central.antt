@@ -68,4 +68,5 @@ pub record OfYear (last : ℕ) (mean : List ℤ) (year : ℕ) : Type 0 where
 -- whatever weights and marks are kept beside them
 pub record CentralOf (last : ℕ) (mean ticks : List ℤ) (variances : List ℕ) (year : ℕ) (r : Ultimate) : Type 0 where
   pub is : (weights struck : List ℕ)
-      → of_ultimate r ≡ ultimate_of last (latest_in last (observed_in last (observations_at ticks weights variances struck))) year (part mean)
+      → of_ultimate r
+      ≡ ultimate_of last (latest_in last (observed_in last (observations_at ticks weights variances struck))) year (part mean)

@@ -151,7 +151,13 @@ record_clear J μ small inside =
     let right = eq-eqb (length_word r) (length r) (length_read J μ (omega arith) ∙ sym (record_length_lem J μ)) in
     let good : (k : ℕ) → k < parts J → good_part (signed (part_at k) r) ≡ true
     = λ k h. rw (part_read J μ inside k h) (le-leb (nat_abs (part μ k)) part_limit (inside k h)) in
-    rw (le-leb 5 (length r) long, right, eq-eqb (version r) 1 (version_read J μ), eq-eqb (length r) (record_length J) (record_length_lem J μ))
+    rw (
+      le-leb 5 (length r) long,
+      right,
+      eq-eqb (version r) 1 (version_read J μ),
+      eq-eqb (length r) (record_length J)
+          (record_length_lem J μ),
+    )
     (fields_good (λ k. good_part (signed (part_at k) r)) 11 part_at 0 (parts J) (λ k from to. good k (omega arith)))
 
 -- ---- only the parts count

@@ -122,7 +122,8 @@ module _ (G : D.Figures) (μ : List ℤ) (t : ℕ) where
   sweeps_spent (suc n) p l =
       ap₂ (λ b c. cond (b || c) (record { mean = μ; swept = t }) (sweeps G n (one_sweep G μ) (suc t))) p (le-leb sweep_limit t l)
 
-  pub sweeps_next : (n : ℕ) → 0 < n → passes G (part μ) ≡ false → t < sweep_limit → sweeps G n μ t ≡ sweeps G (n - 1) (one_sweep G μ) (t + 1)
+  pub sweeps_next : (n : ℕ) → 0 < n → passes G (part μ) ≡ false → t < sweep_limit
+      → sweeps G n μ t ≡ sweeps G (n - 1) (one_sweep G μ) (t + 1)
   unfolding sweeps
   sweeps_next n some p l =
       let more : n ≡ suc (n - 1) = omega arith in

@@ -99,7 +99,8 @@ module _ (J c i j : ℕ) (marks : List ℕ) where
       unfolding strike_check
       struck_already is-marked = rw (le-leb c 1 channel, there, is-marked) refl
 
-      module _ (unmarked_yet : mark_of J marks (step c i j) ≡ false) {n : ℕ} (count : n ≡ left_beside J (mark_of J marks) (step c i j)) where
+      module _ (unmarked_yet : mark_of J marks (step c i j) ≡ false) {n : ℕ}
+          (count : n ≡ left_beside J (mark_of J marks) (step c i j)) where
         pub last_left : n ≡ 1 → refuses 27 0 ≡ strike_check J (mark_of J marks) (step c i j)
         unfolding strike_check
         last_left one = rw (le-leb c 1 channel, there, unmarked_yet, eq-eqb _ 1 (sym count ∙ one)) refl

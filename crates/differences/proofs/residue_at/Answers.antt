@@ -95,9 +95,12 @@ module _ (c : Then-k-years) (variances : List ℕ) where
   few : k after_prior_missed variances ≤ J after_prior_missed variances
   few = c.if-k-years.true
 
-  phi_sum : stored (stored c.prior_missed.result +ℤ stored c.steps_missed-steps.result) +ℤ stored (shared after_prior_missed variances (k after_prior_missed variances))
+  phi_sum : stored (stored c.prior_missed.result +ℤ stored c.steps_missed-steps.result)
+      +ℤ stored (shared after_prior_missed variances (k after_prior_missed variances))
       ≡ own after_prior_missed variances +ℤ shared after_prior_missed variances (k after_prior_missed variances)
-  phi_sum = ap₂ ◌+ℤ◌ (kept w64 (own_is after_prior_missed variances) (own_fits after_prior_missed variances)) (shared_is after_prior_missed variances (k after_prior_missed variances) few)
+  phi_sum =
+      ap₂ ◌+ℤ◌ (kept w64 (own_is after_prior_missed variances) (own_fits after_prior_missed variances))
+      (shared_is after_prior_missed variances (k after_prior_missed variances) few)
 
   phi_small : nat_abs (own after_prior_missed variances +ℤ shared after_prior_missed variances (k after_prior_missed variances)) < 2 ^ 63
   phi_small =
@@ -109,9 +112,11 @@ module _ (c : Then-k-years) (variances : List ℕ) where
       )
 
   phi_is : own after_prior_missed variances +ℤ shared after_prior_missed variances (k after_prior_missed variances)
-      ≡ own after_prior_missed variances +ℤ sign_of (a after_prior_missed variances) *ℤ shared after_prior_missed variances (rank_of (a after_prior_missed variances))
+      ≡ own after_prior_missed variances +ℤ sign_of (a after_prior_missed variances)
+      *ℤ shared after_prior_missed variances (rank_of (a after_prior_missed variances))
   phi_is = ap (λ z. own after_prior_missed variances +ℤ z)
-      (sym (ap (λ p. sign_of p *ℤ shared after_prior_missed variances (rank_of p)) (part_by_index_phi (J after_prior_missed variances) (k after_prior_missed variances) few)
+      (sym (ap (λ p. sign_of p *ℤ shared after_prior_missed variances (rank_of p))
+      (part_by_index_phi (J after_prior_missed variances) (k after_prior_missed variances) few)
       ∙ *ℤ_idl (shared after_prior_missed variances (k after_prior_missed variances))))
 
 pub overflow_add-result : goal.overflow_add-result

@@ -1,5 +1,5 @@
 -- `residues_of` meets its contract. The loop's invariant: the residues of the first k parts are there.
-use Prim.Native.Nat.{ℕ, ◌-◌, ◌≤◌, ◌<◌}
+use Prim.Native.Nat.{ℕ, ◌≤◌, ◌<◌}
 use mathlib.Core.Path.{◌≡◌, subst, ◌∙◌}
 use mathlib.Core.List.{List, []}
 use native.Mathlib.Omega.{arith}
@@ -70,7 +70,8 @@ residue_at-residue-requires c =
         starts_are = c.starts_of-starts.ensures;
       };
       shared_small = λ n few.
-          rw (c.ratios_missed-shared.ensures.are [] c.args.struck.now n few) (ratios_small (J in_loop_k) (o in_loop_k []) (years in_loop_k) (mean in_loop_k) c.requires.small n few);
+          rw (c.ratios_missed-shared.ensures.are [] c.args.struck.now n few)
+          (ratios_small (J in_loop_k) (o in_loop_k []) (years in_loop_k) (mean in_loop_k) c.requires.small n few);
     }
 
 pub offset_bounds-residues-k : goal.offset_bounds-residues-k
@@ -92,19 +93,28 @@ pub loop-k-smaller : goal.loop-k-smaller
 loop-k-smaller c = omega (arith, below (goal.at.loop-k-smaller c).In-loop-k)
 
 -- the residue of part k
-residue : (c : After-residue_at-residue) (variances : List ℕ) → stored c.residue_at-residue.result ≡ observed_times (left_in (J (goal.at.offset_bounds-residues-k c).In-loop-k) (o (goal.at.offset_bounds-residues-k c).In-loop-k variances)) 1 (part (mean (goal.at.offset_bounds-residues-k c).In-loop-k)) (k (goal.at.offset_bounds-residues-k c).In-loop-k)
+residue : (c : After-residue_at-residue) (variances : List ℕ)
+    → stored c.residue_at-residue.result
+    ≡ observed_times (left_in (J (goal.at.offset_bounds-residues-k c).In-loop-k) (o (goal.at.offset_bounds-residues-k c).In-loop-k variances)) 1
+    (part (mean (goal.at.offset_bounds-residues-k c).In-loop-k)) (k (goal.at.offset_bounds-residues-k c).In-loop-k)
 residue c variances =
     let marks = c.args.struck.now in
     let shared = c.ratios_missed-shared.result in
     same _ c.residue_at-residue.type_inv
-    ∙ (subst (λ v. ResidueAt c.args.ticks.now c.args.weights.now marks shared (J (goal.at.offset_bounds-residues-k c).In-loop-k) (k (goal.at.offset_bounds-residues-k c).In-loop-k) v c.residue_at-residue.result) (held (goal.at.offset_bounds-residues-k c).In-loop-k)
+    ∙ (subst (λ v. ResidueAt c.args.ticks.now c.args.weights.now marks shared (J (goal.at.offset_bounds-residues-k c).In-loop-k)
+    (k (goal.at.offset_bounds-residues-k c).In-loop-k) v c.residue_at-residue.result) (held (goal.at.offset_bounds-residues-k c).In-loop-k)
     c.residue_at-residue.ensures).is variances
-    ∙ residue_is (J (goal.at.offset_bounds-residues-k c).In-loop-k) (o (goal.at.offset_bounds-residues-k c).In-loop-k variances) (mean (goal.at.offset_bounds-residues-k c).In-loop-k) (k (goal.at.offset_bounds-residues-k c).In-loop-k) (below (goal.at.offset_bounds-residues-k c).In-loop-k) shared (λ n few. c.ratios_missed-shared.ensures.are variances marks n few)
+    ∙ residue_is (J (goal.at.offset_bounds-residues-k c).In-loop-k) (o (goal.at.offset_bounds-residues-k c).In-loop-k variances)
+    (mean (goal.at.offset_bounds-residues-k c).In-loop-k) (k (goal.at.offset_bounds-residues-k c).In-loop-k)
+    (below (goal.at.offset_bounds-residues-k c).In-loop-k) shared (λ n few. c.ratios_missed-shared.ensures.are variances marks n few)
 
 pub loop-k-preserved : goal.loop-k-preserved
 loop-k-preserved c =
-    let in_loop_k = (goal.at.loop-k-preserved c).In-loop-k in
-    (omega (arith, below in_loop_k), λ variances. filled_next (c.loop-k.invariant.1 variances) (omega (arith, below in_loop_k, years in_loop_k)) (residue c variances))
+    let in_loop_k = (goal.at.loop-k-preserved c).In-loop-k in (
+      omega (arith, below in_loop_k),
+      λ variances. filled_next (c.loop-k.invariant.1 variances) (omega (arith, below in_loop_k, years in_loop_k))
+          (residue c variances),
+    )
 
 pub returns : goal.returns
 returns c =

@@ -1,12 +1,12 @@
 -- `fields::number` meets its contract. The loop's invariant: the value is the field of the bytes passed. The measure is how many
 -- bytes are left.
-use Prim.Native.Nat.{◌+◌, ◌-◌, ◌*◌, ◌<◌, ◌^◌}
+use Prim.Native.Nat.{◌+◌, ◌*◌, ◌<◌, ◌^◌}
 use mathlib.Core.Path.{◌≡◌, sym, ap, ◌∙◌}
 use native.Mathlib.Omega.{arith}
 use lib.ListN.{length, get_or}
 use Rattle.definitions.specs.Layout.{unsigned}
 use Rattle.fields.proofs.Bytes.{unsigned_none, unsigned_next, unsigned_fits}
-use Prim.Native.Nat.{◌+◌, ◌-◌, ◌<◌}
+use Prim.Native.Nat.{◌+◌, ◌<◌}
 use lib.ListN.{length}
 use Rattle.fields.proofs.number.Goals as goal
 use Rattle.fields.proofs.number.Goals.{After-shared_slice_known-1}

@@ -53,7 +53,9 @@ unfolding twos_complement
 returns-then-v-lt2147483648 c =
     let v = c.in-Value.v in
     let a = c.args in
-    ap SignedValue (plain (goal.at.returns-then-v-lt2147483648 c).In-Value ∙ rw (← (was_read (goal.at.returns-then-v-lt2147483648 c).In-Value).1, lt-ltb v (2 ^ 31) c.if-v-lt2147483648.true) refl)
+    ap SignedValue
+    (plain (goal.at.returns-then-v-lt2147483648 c).In-Value
+    ∙ rw (← (was_read (goal.at.returns-then-v-lt2147483648 c).In-Value).1, lt-ltb v (2 ^ 31) c.if-v-lt2147483648.true) refl)
     ∙ sym (signed_value a.at a.s.now (was_read (goal.at.returns-then-v-lt2147483648 c).In-Value).0)
 
 pub returns-else-v-lt2147483648 : goal.returns-else-v-lt2147483648

@@ -46,7 +46,8 @@ returns-then-not-tested c = judges_closed _ _ (λ h. c.residues-tested.ensures.f
 
 pub returns-in-Refuses : goal.returns-in-Refuses
 returns-in-Refuses c =
-    judges_refused _ _ (fits (framed (goal.at.returns-in-Refuses c).Else-not-frame_fits) (c.residues-tested.ensures.fit.when_yes (not_no c.if-not-tested.false))) _ _
+    judges_refused _ _
+    (fits (framed (goal.at.returns-in-Refuses c).Else-not-frame_fits) (c.residues-tested.ensures.fit.when_yes (not_no c.if-not-tested.false))) _ _
     (sym c.parse-parsed.ensures.checked ∙ ap told c.in-Refuses.is)
 
 -- the record is not refused, so its mean is read
@@ -71,7 +72,8 @@ module _ (c : Else-not-tested-2) where
   open_file = fits (c.frame_fits.ensures.when_yes c.if-not-frame_fits.false) (c.residues-tested-2.ensures.fit.when_yes c.if-not-tested-2.false)
 
 pub test-judgement-requires : goal.test-judgement-requires
-test-judgement-requires c = own_fits (S (goal.at.test-judgement-requires c).Start).figures (open_file (goal.at.test-judgement-requires c).Else-not-tested-2).fitting
+test-judgement-requires c =
+    own_fits (S (goal.at.test-judgement-requires c).Start).figures (open_file (goal.at.test-judgement-requires c).Else-not-tested-2).fitting
 
 -- the judgement of the record's mean
 module _ (c : After-test-judgement) where
@@ -80,7 +82,8 @@ module _ (c : After-test-judgement) where
 
   verdict : judgement_of c.test-judgement.result ≡ judgement_of_lem (D.mean_of c.args.last c.args.lent.now)
   verdict =
-      judged (S c.before.before.before.before.before.before.before.before.before.before.before.before).figures _ _ (c.residues-tested-2.ensures.are c.if-not-tested-2.false) c.test-judgement.ensures
+      judged (S c.before.before.before.before.before.before.before.before.before.before.before.before).figures _ _
+      (c.residues-tested-2.ensures.are c.if-not-tested-2.false) c.test-judgement.ensures
       ∙ ap judgement_of_lem (mean_is _ _ (passed c.parse-parsed.ensures.checked c.in_default.is) (c.parse-parsed.ensures.is (ap told c.in_default.is)))
 
 pub returns-in-Passed : goal.returns-in-Passed

@@ -113,7 +113,8 @@ module _ (c : After-start_mean) where
   opened =
       let F = c.figures_in.new in
       done file (clear_file after_last_year_last) c.observe.ensures
-      (subst (λ J. FiguresOf (ticks after_observe) (weights after_observe) (struck after_observe) J F.own F.matrix F.right_hand) (year after_last_year_last) c.figures_in.ensures)
+      (subst (λ J. FiguresOf (ticks after_observe) (weights after_observe) (struck after_observe) J F.own F.matrix F.right_hand)
+      (year after_last_year_last) c.figures_in.ensures)
       (subst (λ J. PriorMeans (ticks after_observe) J c.start_mean.new.mean) (year after_last_year_last) c.start_mean.ensures)
       (S start) before (closed (goal.at.closeness_of-requires c).Else-is_open)
 

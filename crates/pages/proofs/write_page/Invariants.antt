@@ -12,7 +12,8 @@ use Rattle.pages.proofs.write_page.Given as goal
 
 abbrev pub invariant-loop-k : goal.invariant-loop-k
 invariant-loop-k l =
-    (length l.buf ≡ length l.initial.buf) × (l.k ≤ l.count) × Added l.initial.buf 0 (lines (λ i. page_line (part_by_index l.last i) (part l.mean i) (get_or l.own i 0)) l.k) l.buf l.end
+    (length l.buf ≡ length l.initial.buf) × (l.k ≤ l.count)
+    × Added l.initial.buf 0 (lines (λ i. page_line (part_by_index l.last i) (part l.mean i) (get_or l.own i 0)) l.k) l.buf l.end
 
 abbrev pub decreases-loop-k : goal.decreases-loop-k
 decreases-loop-k l = l.count - l.k

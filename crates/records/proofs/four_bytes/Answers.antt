@@ -27,7 +27,8 @@ sum c =
     ∙ four_negative c.args.z c.requires (subst (λ z. lt_z z (pos 0) ≡ true) (held (goal.at.overflow_add-result c).Start) c.if-z-lt0.true)
 
 plain : (c : Else-z-lt0) → to_z w64 (of_z w64 c.args.z) ≡ pos (four_bytes c.args.z)
-plain c = held (goal.at.overflow_cast-result-else-z-lt0 c).Start ∙ four_positive c.args.z (subst (λ z. lt_z z (pos 0) ≡ false) (held (goal.at.overflow_cast-result-else-z-lt0 c).Start) c.if-z-lt0.false)
+plain c = held (goal.at.overflow_cast-result-else-z-lt0 c).Start
+    ∙ four_positive c.args.z (subst (λ z. lt_z z (pos 0) ≡ false) (held (goal.at.overflow_cast-result-else-z-lt0 c).Start) c.if-z-lt0.false)
 
 pub overflow_add-result : goal.overflow_add-result
 overflow_add-result c = fits (sum c) (small (goal.at.overflow_add-result c).Start)

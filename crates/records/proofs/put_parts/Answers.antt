@@ -1,7 +1,7 @@
 -- `records::put_parts` meets its contract. The loop's invariant: the bytes of the parts passed stand behind the first five, and
 -- the bytes behind them are as they were. The measure is how many are left. Assumes nothing.
 use native.Mathlib.Omega.{arith}
-use Prim.Native.Nat.{◌-◌, ◌^◌, ◌≤◌}
+use Prim.Native.Nat.{◌^◌, ◌≤◌}
 use mathlib.Core.Path.{◌≡◌, refl, ap, ◌∙◌}
 use lib.IntN.{nat_abs}
 use mir.Syntax.{w64}

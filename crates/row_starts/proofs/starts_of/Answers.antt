@@ -1,7 +1,7 @@
 -- `row_starts::starts_of` meets its contract. The rule is shown over the entire table by one test, which the checker computes: `refl`, that the
 -- constant is the list of the rule's 256 numbers. The lemma `rule` turns it into the rule at each entry. The loop's invariant: the years
 -- passed have their entries. Assumes nothing.
-use Prim.Native.Nat.{ℕ, ◌+◌, ◌*◌, ◌-◌, ◌≤◌, ◌<◌}
+use Prim.Native.Nat.{ℕ, ◌+◌, ◌*◌, ◌≤◌, ◌<◌}
 use mathlib.Core.Path.{◌≡◌, refl, sym, ap, subst, ◌∙◌}
 use mathlib.Core.List.{List}
 use native.Mathlib.Omega.{arith}

@@ -1,6 +1,5 @@
 -- `scales::four_logarithms_of` meets its contract. The loop's invariant: so many squarings of each are run. The measure is how many
 -- are left.
-use Prim.Native.Nat.{◌-◌}
 use native.Mathlib.Omega.{arith}
 use Rattle.scales.proofs.Squarings.{after_none, after_may, after_next, after_ticks}
 use Rattle.scales.proofs.four_logarithms_of.Goals as goal

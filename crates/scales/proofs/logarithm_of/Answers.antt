@@ -1,5 +1,4 @@
 -- `scales::logarithm_of` meets its contract. The loop's invariant: so many squarings are run. The measure is how many are left.
-use Prim.Native.Nat.{◌-◌}
 use native.Mathlib.Omega.{arith}
 use Rattle.scales.proofs.Squarings.{after_none, after_may, after_next, after_ticks}
 use Rattle.scales.proofs.logarithm_of.Goals as goal

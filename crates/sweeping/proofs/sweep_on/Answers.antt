@@ -34,7 +34,8 @@ module _ (c : After-sweeps-swept) where
 
 pub returns-then-swept : goal.returns-then-swept
 returns-then-swept c =
-    done (S (goal.at.returns-then-swept c).Start) c.args.n c.requires c.passes.ensures c.if-passes.false (more (goal.at.returns-then-swept c).After-sweeps-swept)
+    done (S (goal.at.returns-then-swept c).Start) c.args.n c.requires c.passes.ensures c.if-passes.false
+    (more (goal.at.returns-then-swept c).After-sweeps-swept)
     c.sweeps-swept.ensures c.if-swept.true
 
 pub returns : goal.returns

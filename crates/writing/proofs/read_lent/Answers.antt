@@ -41,7 +41,8 @@ overflow_cast-year c = record { fits = omega (arith, (frame (open_file c)).years
 pub returns-then-buffer-record_length : goal.returns-then-buffer-record_length
 returns-then-buffer-record_length c =
     let in_default = (goal.at.returns-then-buffer-record_length c).In_default in
-    writes_short record_length record_in _ _ (open_file in_default) (passing in_default) (omega (arith, c.if-buffer-record_length.true, c.record_length.ensures))
+    writes_short record_length record_in _ _ (open_file in_default) (passing in_default)
+    (omega (arith, c.if-buffer-record_length.true, c.record_length.ensures))
 
 pub write_record-requires : goal.write_record-requires
 write_record-requires c =

@@ -56,7 +56,10 @@ module _ (c : After-struct_told-1) where
 
   high : stored (to_z w64 (a c.before.before.before / 4294967296) *ℤ stored (b c.before.before.before)) +ℤ stored c.split-lower.result.floor
       ≡ pos (a c.before.before.before / 4294967296) *ℤ b c.before.before.before +ℤ c.split-lower.result.floor
-  high = ap₂ ◌+ℤ◌ (kept w64 (upper_is c.before.before.before) (omega (arith, upper_small (a c.before.before.before) (b c.before.before.before) (a_fits c.before.before.before) c.requires))) (same _ c.struct_told-1.given.0.1)
+  high = ap₂ ◌+ℤ◌
+      (kept w64 (upper_is c.before.before.before)
+      (omega (arith, upper_small (a c.before.before.before) (b c.before.before.before) (a_fits c.before.before.before) c.requires)))
+      (same _ c.struct_told-1.given.0.1)
 
 pub overflow_add-result : goal.overflow_add-result
 overflow_add-result c =

@@ -1,6 +1,5 @@
 -- The test of residues. Shown: what is left to test from part k on gives the whole judgement, so that the first part that fails is the
 -- definitions'. Assumes nothing.
-use Prim.Native.Nat.{◌-◌}
 use mathlib.Core.Path.{◌≡◌, sym, ◌∙◌, ap}
 use native.Mathlib.Nat.{mul-le-mul}
 use native.Mathlib.Omega.{arith}

@@ -1,6 +1,6 @@
 -- Row k up to its diagonal. Shown: the entries so far are in the bounds, the sum is that of their products, and the residues of the parts
 -- so far have the mirrored products added. None of them wraps, since the entries and the mean are in the bounds. Assumes nothing.
-use Prim.Native.Nat.{ℕ, ◌+◌, ◌*◌, ◌-◌, ◌^◌, ◌≤◌, ◌<◌}
+use Prim.Native.Nat.{ℕ, ◌+◌, ◌*◌, ◌^◌, ◌≤◌, ◌<◌}
 use mathlib.Core.Path.{◌≡◌, refl, sym, ◌∙◌, ap, ap₂, subst}
 use mathlib.Core.Bool.{false≢true}
 use mathlib.Core.List.{List}
@@ -10,7 +10,7 @@ use lib.IntN.{ℤ, nat_abs, ◌+ℤ◌, ◌*ℤ◌}
 use mir.Syntax.{w64}
 use mir.Val.{to_z}
 use Rattle.integers.specs.Size.{fits, kept, nat_abs-+, nat_abs-*-≤}
-use Rattle.integers.specs.Sum.{sum, sum_zero, sum_next}
+use Rattle.integers.specs.Sum.{sum_zero, sum_next}
 use Rattle.integers.specs.Total.{sum_size, total_bound}
 use Rattle.definitions.specs.Words.{part}
 use Rattle.definitions.specs.Refusals.{part_limit}
@@ -168,7 +168,8 @@ overflow_mul-residues c =
     fits (product h k (omega arith)) (product_small h k (omega arith))
 
 pub overflow_add-residues : goal.overflow_add-residues
-overflow_add-residues c = let h = reached (goal.at.overflow_add-residues c).Else-not-entry_fits in fits (mirrored h (x c) (old c)) (mirrored_small h (x c) (old c))
+overflow_add-residues c = let h =
+    reached (goal.at.overflow_add-residues c).Else-not-entry_fits in fits (mirrored h (x c) (old c)) (mirrored_small h (x c) (old c))
 
 pub offset_bounds-residues-l-in-loop-l : goal.offset_bounds-residues-l-in-loop-l
 offset_bounds-residues-l-in-loop-l c = omega (arith, in_array (goal.at.offset_bounds-residues-l-in-loop-l c).Else-not-entry_fits)

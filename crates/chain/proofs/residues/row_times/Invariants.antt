@@ -1,6 +1,6 @@
 -- Row k up to its diagonal. Shown: the entries so far are in the bounds, the sum is that of their products, and the residues of the parts
 -- so far have the mirrored products added. None of them wraps, since the entries and the mean are in the bounds. Assumes nothing.
-use Prim.Native.Nat.{ℕ, ◌+◌, ◌*◌, ◌-◌, ◌≤◌, ◌<◌}
+use Prim.Native.Nat.{ℕ, ◌-◌, ◌≤◌, ◌<◌}
 use mathlib.Core.Path.{◌≡◌}
 use lib.IntN.{nat_abs, ◌+ℤ◌, ◌*ℤ◌}
 use Rattle.integers.specs.Sum.{sum}

@@ -110,7 +110,8 @@ returns c =
       is = λ weights variances struck.
           same _ c.step_at-2.type_inv
           ∙ c.step_at-2.ensures
-          ∙ ap₂ (λ m n. log start (m + (n + (k start - J start - 1)) + 1) -ℤ log start (m + (n + (k start - J start - 1)))) c.cells_of.ensures c.requires.start_is
+          ∙ ap₂ (λ m n. log start (m + (n + (k start - J start - 1)) + 1)
+          -ℤ log start (m + (n + (k start - J start - 1)))) c.cells_of.ensures c.requires.start_is
           ∙ incurred_is (J start) (observations_at c.args.ticks.now weights variances struck) (k start) (i start)
           (past (goal.at.returns c).After-cells_of) c.requires.below c.requires.there;
     }

@@ -46,8 +46,9 @@ pub returns : goal.returns
 returns c =
     let after_struct_told_1 = (goal.at.returns c).After-struct_told-1 in
     record {
-  is = λ variances struck.
-      same _ c.weighed.type_inv
-      ∙ c.weighed.ensures
-      ∙ ap₂ (λ w z. pos w *ℤ z) (weight_is after_struct_told_1 variances struck) (ap₂ ◌-ℤ◌ (held after_struct_told_1 variances struck) (mean_is after_struct_told_1 variances struck));
-}
+      is = λ variances struck.
+          same _ c.weighed.type_inv
+          ∙ c.weighed.ensures
+          ∙ ap₂ (λ w z. pos w *ℤ z) (weight_is after_struct_told_1 variances struck)
+          (ap₂ ◌-ℤ◌ (held after_struct_told_1 variances struck) (mean_is after_struct_told_1 variances struck));
+    }

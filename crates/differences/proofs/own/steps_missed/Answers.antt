@@ -1,5 +1,5 @@
 -- `steps_missed` meets its contract. The loop's invariant: the total is that of the part's first i observations.
-use Prim.Native.Nat.{ℕ, ◌+◌, ◌*◌, ◌-◌, ◌^◌, ◌≤◌, ◌<◌}
+use Prim.Native.Nat.{ℕ, ◌+◌, ◌*◌, ◌^◌, ◌≤◌, ◌<◌}
 use mathlib.Core.Path.{◌≡◌, sym, ap, ap₂, subst, ◌∙◌}
 use mathlib.Core.Bool.{false, cond}
 use mathlib.Core.List.{List, []}
@@ -101,11 +101,11 @@ pub observation-observed-requires : goal.observation-observed-requires
 observation-observed-requires c =
     let in_loop_i = (goal.at.observation-observed-requires c).In-loop-i in
     record {
-  few = years in_loop_i;
-  below = below in_loop_i;
-  there = there in_loop_i;
-  start_is = starts_at c.requires.starts_are (i in_loop_i) (year_few in_loop_i) (years in_loop_i);
-}
+      few = years in_loop_i;
+      below = below in_loop_i;
+      there = there in_loop_i;
+      start_is = starts_at c.requires.starts_are (i in_loop_i) (year_few in_loop_i) (years in_loop_i);
+    }
 
 pub overflow_mul-k : goal.overflow_mul-k
 overflow_mul-k c = omega (arith, mark_inside (goal.at.overflow_mul-k c).In-loop-i)
@@ -140,18 +140,23 @@ pub weighed-total-requires : goal.weighed-total-requires
 weighed-total-requires c =
     let in_loop_i = (goal.at.weighed-total-requires c).In-loop-i in
     record {
-  light = rw (weight_is c []) (step_weight_small (J in_loop_i) (o in_loop_i []) (years in_loop_i) (k in_loop_i) (i in_loop_i) (below in_loop_i) (there in_loop_i));
-  part_small = omega (arith, small in_loop_i);
-  observed_small =
-      rw (observed_is c []) (omega (arith, observation_small (J in_loop_i) (o in_loop_i []) (years in_loop_i) (k in_loop_i) (i in_loop_i) (below in_loop_i) (there in_loop_i)));
-}
+      light = rw (weight_is c [])
+          (step_weight_small (J in_loop_i) (o in_loop_i []) (years in_loop_i) (k in_loop_i) (i in_loop_i) (below in_loop_i) (there in_loop_i));
+      part_small = omega (arith, small in_loop_i);
+      observed_small =
+          rw (observed_is c [])
+          (omega (arith, observation_small (J in_loop_i) (o in_loop_i []) (years in_loop_i) (k in_loop_i) (i in_loop_i) (below in_loop_i) (there in_loop_i)));
+    }
 
-next : (c : After-weighed-total) (variances : List ℕ) → to_z w64 c.loop-i.total-bits +ℤ stored c.weighed-total.result ≡ sum (i (goal.at.overflow_add-total c).In-loop-i + 1) (terms (goal.at.overflow_add-total c).In-loop-i variances)
+next : (c : After-weighed-total) (variances : List ℕ)
+    → to_z w64 c.loop-i.total-bits +ℤ stored c.weighed-total.result
+    ≡ sum (i (goal.at.overflow_add-total c).In-loop-i + 1) (terms (goal.at.overflow_add-total c).In-loop-i variances)
 next c variances =
     ap₂ ◌+ℤ◌ (c.loop-i.invariant.1 variances)
     (same _ c.weighed-total.type_inv
     ∙ c.weighed-total.ensures
-    ∙ ap₂ (λ w z. pos w *ℤ z) (weight_is (goal.at.overflow_add-total c).After-step_weight variances) (ap (λ z. v (goal.at.overflow_add-total c).In-loop-i -ℤ z) (observed_is (goal.at.overflow_add-total c).After-step_weight variances)))
+    ∙ ap₂ (λ w z. pos w *ℤ z) (weight_is (goal.at.overflow_add-total c).After-step_weight variances)
+    (ap (λ z. v (goal.at.overflow_add-total c).In-loop-i -ℤ z) (observed_is (goal.at.overflow_add-total c).After-step_weight variances)))
     ∙ sym (sum_next (i (goal.at.overflow_add-total c).In-loop-i) (terms (goal.at.overflow_add-total c).In-loop-i variances))
 
 pub overflow_add-total : goal.overflow_add-total

@@ -6,7 +6,6 @@ use lib.IntN.{ℤ}
 use Rattle.integers.specs.Sum.{sum}
 use Rattle.definitions.specs.Matrix.{part_by_index}
 use Rattle.observations.specs.Arrays.{observations_at}
-use Rattle.observations.specs.Arrays as Arrays
 use Rattle.differences.specs.Differences.{left_in, step_term}
 use Rattle.differences.proofs.own.steps_missed.Given as goal
 

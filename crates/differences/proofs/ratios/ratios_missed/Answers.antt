@@ -139,19 +139,28 @@ pub weighed-total-requires : goal.weighed-total-requires
 weighed-total-requires c =
     let in_loop_d = (goal.at.weighed-total-requires c).In-loop-d in
     record {
-  light = omega (arith, c.kept_ratio_weight-weight.ensures);
-  part_small = rw (same _ c.ratio_of.type_inv ∙ c.ratio_of.ensures)
-      (omega (arith, ratio_small (J in_loop_d) (mean in_loop_d) c.requires.small (d in_loop_d) (J in_loop_d - d in_loop_d) (omega (arith, more in_loop_d)), years in_loop_d));
-  observed_small = rw (kept w64 (last_ratio_lem c [] []) (omega (arith, last_small c [] []))) (last_small c [] []);
-}
+      light = omega (arith, c.kept_ratio_weight-weight.ensures);
+      part_small = rw (same _ c.ratio_of.type_inv ∙ c.ratio_of.ensures)
+          (omega (
+            arith,
+            ratio_small (J in_loop_d) (mean in_loop_d) c.requires.small (d in_loop_d) (J in_loop_d - d in_loop_d)
+                (omega (arith, more in_loop_d)),
+            years in_loop_d,
+          ));
+      observed_small = rw (kept w64 (last_ratio_lem c [] []) (omega (arith, last_small c [] []))) (last_small c [] []);
+    }
 
-next : (c : After-weighed-total) (variances struck : List ℕ) → to_z w64 c.loop-d.total-bits +ℤ stored c.weighed-total.result ≡ sum (d (goal.at.overflow_add-total c).In-loop-d + 1) (terms (goal.at.overflow_add-total c).In-loop-d variances struck)
+next : (c : After-weighed-total) (variances struck : List ℕ)
+    → to_z w64 c.loop-d.total-bits +ℤ stored c.weighed-total.result
+    ≡ sum (d (goal.at.overflow_add-total c).In-loop-d + 1) (terms (goal.at.overflow_add-total c).In-loop-d variances struck)
 next c variances struck =
     ap₂ ◌+ℤ◌ (c.loop-d.invariant.1 variances struck).at_hand
     (same _ c.weighed-total.type_inv
     ∙ c.weighed-total.ensures
     ∙ ap₂ (λ w z. pos w *ℤ z) (weight_is (goal.at.overflow_add-total c).After-struct_told-in-loop-d-1 variances struck)
-    (ap₂ ◌-ℤ◌ (mean_ratio_is (goal.at.overflow_add-total c).After-struct_told-in-loop-d-1 variances struck) (kept w64 (last_ratio_lem (goal.at.overflow_add-total c).After-struct_told-in-loop-d-1 variances struck) (omega (arith, last_small (goal.at.overflow_add-total c).After-struct_told-in-loop-d-1 variances struck)))))
+    (ap₂ ◌-ℤ◌ (mean_ratio_is (goal.at.overflow_add-total c).After-struct_told-in-loop-d-1 variances struck)
+    (kept w64 (last_ratio_lem (goal.at.overflow_add-total c).After-struct_told-in-loop-d-1 variances struck)
+    (omega (arith, last_small (goal.at.overflow_add-total c).After-struct_told-in-loop-d-1 variances struck)))))
     ∙ sym (sum_next (d (goal.at.overflow_add-total c).In-loop-d) (terms (goal.at.overflow_add-total c).In-loop-d variances struck))
 
 pub overflow_add-total : goal.overflow_add-total
@@ -177,8 +186,7 @@ loop-d-smaller c = omega (arith, more (goal.at.loop-d-smaller c).In-loop-d)
 
 pub loop-d-preserved : goal.loop-d-preserved
 loop-d-preserved c =
-    let in_loop_d = (goal.at.loop-d-preserved c).In-loop-d in
-    (
+    let in_loop_d = (goal.at.loop-d-preserved c).In-loop-d in (
       omega (arith, more in_loop_d),
       λ variances struck. summed_next (c.loop-d.invariant.1 variances struck) (omega (arith, more in_loop_d, years in_loop_d))
           (kept w64 (next c variances struck) (next_small in_loop_d variances struck)),

@@ -4,7 +4,6 @@ use mathlib.Core.List.{List}
 use lib.IntN.{ℤ}
 use Rattle.laws.specs.RunningSums.{Summed}
 use Rattle.observations.specs.Arrays.{observations_at}
-use Rattle.observations.specs.Arrays as Arrays
 use Rattle.differences.specs.Differences.{left_in, ratio_term}
 use Rattle.differences.proofs.ratios.ratios_missed.Given as goal
 

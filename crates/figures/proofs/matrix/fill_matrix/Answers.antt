@@ -1,5 +1,4 @@
 -- `figures::matrix::fill_matrix` meets its contract. The loop's invariant: the rows passed are filled.
-use Prim.Native.Nat.{◌-◌}
 use native.Mathlib.Omega.{arith}
 use lib.IntN.{pos}
 use lib.ListN.{length-replicate}

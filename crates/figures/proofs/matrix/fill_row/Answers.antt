@@ -2,7 +2,6 @@
 -- the sum does not wrap.
 use Prim.Native.Nat.{ℕ, ◌+◌, ◌*◌, ◌^◌, ◌<◌, min}
 use mathlib.Core.Path.{◌≡◌, refl, sym, ap, ap₂, subst, ◌∙◌}
-use mathlib.Core.Logic.{⊎_elim}
 use mathlib.Core.List.{List}
 use native.Mathlib.Omega.{arith}
 use lib.IntN.{ℤ, pos, nat_abs, ◌+ℤ◌}
@@ -58,9 +57,9 @@ module _ (c : After-value-1) where
       let turned = c.requires.of_turned in
       let row = c.requires.of_row.row in
       elim c.if-k-last.branch [
-        then-k-last w ↦ subst (Row shared) (sym w.matrix-is) (stretch_as w.fill_shares.ensures (phi_row turned k row w.if-k-last.true))
-      | else-k-last w ↦
-          subst (Row shared) (sym w.matrix-is) (stretch_as w.fill_shares-else-k-last.ensures (psi_row turned k row w.if-k-last.false))
+        | then-k-last w ↦ subst (Row shared) (sym w.matrix-is) (stretch_as w.fill_shares.ensures (phi_row turned k row w.if-k-last.true))
+        | else-k-last w ↦
+            subst (Row shared) (sym w.matrix-is) (stretch_as w.fill_shares-else-k-last.ensures (psi_row turned k row w.if-k-last.false))
       ]
 
   abbrev diagonal : ℤ
@@ -102,6 +101,7 @@ returns c =
     record {
       whole = subst (λ i. Row after_value_1 (entry_of own_of_lem shares_of (J after_value_1) (k after_value_1)) (set c.if-k-last.matrix i value)) place
           (stretch_put (filled after_value_1) (omega (arith, c.requires.of_row.row, c.requires.of_row.of_matrix.few))
-          (kept w64 (whole after_value_1) (whole_small after_value_1) ∙ ap (λ z. pos (own after_value_1) +ℤ z) (diagonal_is after_value_1) ∙ entry_on own_of_lem shares_of (J after_value_1) (k after_value_1))
+          (kept w64 (whole after_value_1) (whole_small after_value_1) ∙ ap (λ z. pos (own after_value_1) +ℤ z) (diagonal_is after_value_1)
+          ∙ entry_on own_of_lem shares_of (J after_value_1) (k after_value_1))
           (λ l below apart. (below, entry_off own_of_lem shares_of (J after_value_1) (k after_value_1) l apart)));
     }

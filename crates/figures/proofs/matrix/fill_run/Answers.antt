@@ -1,6 +1,6 @@
 -- `figures::matrix::fill_run` meets its contract. The loop's invariant: the cells passed are filled, and those before the run are as
 -- they were.
-use Prim.Native.Nat.{◌+◌, ◌-◌, ◌≤◌, ◌<◌}
+use Prim.Native.Nat.{◌+◌, ◌≤◌, ◌<◌}
 use mathlib.Core.Path.{ap, ◌∙◌}
 use native.Mathlib.Omega.{arith}
 use Rattle.definitions.specs.Words.{part}

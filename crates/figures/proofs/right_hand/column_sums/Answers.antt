@@ -1,5 +1,5 @@
 -- `figures::right_hand::column_sums` meets its contract. The loop's invariant: the parts passed have their sums.
-use Prim.Native.Nat.{◌-◌, ◌<◌}
+use Prim.Native.Nat.{◌<◌}
 use mathlib.Core.Path.{◌∙◌}
 use native.Mathlib.Omega.{arith}
 use lib.IntN.{pos}

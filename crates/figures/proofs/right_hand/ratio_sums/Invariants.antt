@@ -1,5 +1,5 @@
 -- `figures::right_hand::ratio_sums` meets its contract. The loop's invariant: the sums up to development year d are there.
-use Prim.Native.Nat.{◌*◌, ◌-◌, ◌≤◌}
+use Prim.Native.Nat.{◌-◌, ◌≤◌}
 use lib.IntN.{pos, ◌*ℤ◌}
 use Rattle.observations.specs.Arrays
 use Rattle.laws.specs.RunningSums.{Summed}

@@ -1,5 +1,5 @@
 -- `figures::right_hand::start_sum` meets its contract. The loop's invariant: the total is that of the years before i.
-use Prim.Native.Nat.{ℕ, ◌+◌, ◌*◌, ◌-◌, ◌^◌, ◌≤◌, ◌<◌}
+use Prim.Native.Nat.{ℕ, ◌+◌, ◌*◌, ◌^◌, ◌≤◌, ◌<◌}
 use mathlib.Core.Path.{◌≡◌, sym, ap, ap₂, ◌∙◌}
 use mathlib.Core.Bool.{not, cond}
 use mathlib.Core.List.{List}
@@ -90,13 +90,16 @@ bounds-struck-i c =
     omega (arith, more in_loop_i, (small in_loop_i).few)
 
 -- with the next logarithm, where it counts
-next : (c : After-counted-total) → to_z w64 c.loop-i.total-bits +ℤ stored c.counted-total.result ≡ sum (i (goal.at.overflow_add-total c).In-loop-i + 1) (counts (goal.at.overflow_add-total c).In-loop-i)
+next : (c : After-counted-total)
+    → to_z w64 c.loop-i.total-bits +ℤ stored c.counted-total.result
+    ≡ sum (i (goal.at.overflow_add-total c).In-loop-i + 1) (counts (goal.at.overflow_add-total c).In-loop-i)
 next c =
     let struck = c.args.struck.now in
     ap₂ ◌+ℤ◌ c.loop-i.invariant.1
     (same c.counted-total.result c.counted-total.type_inv
     ∙ c.counted-total.ensures
-    ∙ ap₂ (λ n z. cond (not (eqb (Arrays.at struck n) 0)) (pos 0) z) (first (i (goal.at.overflow_add-total c).In-loop-i)) (log (goal.at.overflow_add-total c).In-loop-i))
+    ∙ ap₂ (λ n z. cond (not (eqb (Arrays.at struck n) 0)) (pos 0) z) (first (i (goal.at.overflow_add-total c).In-loop-i))
+    (log (goal.at.overflow_add-total c).In-loop-i))
     ∙ sym (sum_next (i (goal.at.overflow_add-total c).In-loop-i) (counts (goal.at.overflow_add-total c).In-loop-i))
   where
     first : (n : ℕ) → n ≡ 16 * 0 + n

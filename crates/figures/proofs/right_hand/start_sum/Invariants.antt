@@ -4,7 +4,6 @@ use mathlib.Core.Path.{◌≡◌}
 use Rattle.integers.specs.Sum.{sum}
 use Rattle.definitions.specs.Words.{part}
 use Rattle.definitions.specs.Layout.{row_start}
-use Rattle.observations.specs.Arrays
 use Rattle.figures.specs.Sums.{counted_at}
 use Rattle.figures.proofs.right_hand.start_sum.Given as goal
 

@@ -132,13 +132,16 @@ pub bounds-struck-k : goal.bounds-struck-k
 bounds-struck-k c = omega (arith, mark_inside (goal.at.bounds-struck-k c).In-loop-i)
 
 -- with the next step, where it counts
-next : (c : After-counted-total) → to_z w64 c.loop-i.total-bits +ℤ stored c.counted-total.result ≡ sum (i (goal.at.overflow_add-total c).In-loop-i + 1) (counts (goal.at.overflow_add-total c).In-loop-i)
+next : (c : After-counted-total)
+    → to_z w64 c.loop-i.total-bits +ℤ stored c.counted-total.result
+    ≡ sum (i (goal.at.overflow_add-total c).In-loop-i + 1) (counts (goal.at.overflow_add-total c).In-loop-i)
 next c =
     let a = c.args in
     ap₂ ◌+ℤ◌ c.loop-i.invariant.1
     (same c.counted-total.result c.counted-total.type_inv
     ∙ c.counted-total.ensures
-    ∙ ap (cond (mark_at a.struck.now a.k (i (goal.at.overflow_add-total c).In-loop-i)) (pos 0)) (kept w64 (step (goal.at.overflow_add-total c).In-loop-i) (next_step (goal.at.overflow_add-total c).In-loop-i)))
+    ∙ ap (cond (mark_at a.struck.now a.k (i (goal.at.overflow_add-total c).In-loop-i)) (pos 0))
+    (kept w64 (step (goal.at.overflow_add-total c).In-loop-i) (next_step (goal.at.overflow_add-total c).In-loop-i)))
     ∙ sym (sum_next (i (goal.at.overflow_add-total c).In-loop-i) (counts (goal.at.overflow_add-total c).In-loop-i))
 
 pub overflow_add-total : goal.overflow_add-total

@@ -2,7 +2,6 @@
 use Prim.Native.Nat.{◌-◌, ◌≤◌}
 use mathlib.Core.Path.{◌≡◌}
 use Rattle.integers.specs.Sum.{sum}
-use Rattle.observations.specs.Arrays
 use Rattle.figures.specs.Sums.{step_of, counted_at}
 use Rattle.figures.proofs.right_hand.step_sum.Given as goal
 

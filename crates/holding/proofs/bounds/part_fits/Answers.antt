@@ -40,7 +40,8 @@ returns-then-diagonal-lt1 c =
 
 pub returns-then-diagonal-gt8589934592 : goal.returns-then-diagonal-gt8589934592
 returns-then-diagonal-gt8589934592 c =
-    let large = subst (λ d. pos diagonal_limit <ℤ d) (diagonal_read (goal.at.returns-then-diagonal-gt8589934592 c).Start) (less c.if-diagonal-gt8589934592.true) in
+    let large =
+    subst (λ d. pos diagonal_limit <ℤ d) (diagonal_read (goal.at.returns-then-diagonal-gt8589934592 c).Start) (less c.if-diagonal-gt8589934592.true) in
     decided_no (λ fits. clash_ℤ large fits.diagonal_to)
 
 pub returns-then-size-gt576460752303423488 : goal.returns-then-size-gt576460752303423488

@@ -1,5 +1,5 @@
 -- `bounds::parts_fit` meets its contract. The loop's invariant: the parts before k fit. The measure is how many are left.
-use Prim.Native.Nat.{ℕ, ◌+◌, ◌*◌, ◌-◌, ◌<◌}
+use Prim.Native.Nat.{ℕ, ◌+◌, ◌*◌, ◌<◌}
 use mathlib.Core.Path.{sym, ◌∙◌, subst₃}
 use mathlib.Core.List.{List}
 use native.Mathlib.Nat.{le_refl}

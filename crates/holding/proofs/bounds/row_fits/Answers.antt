@@ -1,5 +1,5 @@
 -- `bounds::row_fits` meets its contract. The loop's invariant: the entries before l fit.
-use Prim.Native.Nat.{ℕ, ◌+◌, ◌*◌, ◌-◌, ◌≤◌, ◌<◌}
+use Prim.Native.Nat.{ℕ, ◌+◌, ◌*◌, ◌≤◌, ◌<◌}
 use mathlib.Core.Path.{sym, subst, ◌∙◌}
 use mathlib.Core.List.{List}
 use native.Mathlib.Omega.{arith}
@@ -63,8 +63,11 @@ loop-l-smaller c = omega (arith, c.loop-l-test.true)
 pub loop-l-preserved : goal.loop-l-preserved
 loop-l-preserved c =
     let after_entry_fits = (goal.at.loop-l-preserved c).After-entry_fits in
-    let y = c.loop-l in
-    (omega (arith, c.loop-l-test.true), here_or_before (FitsAt (A after_entry_fits) (k after_entry_fits)) y.l ((decided after_entry_fits).when_yes c.if-not-entry_fits.false) y.invariant.1)
+    let y = c.loop-l in (
+      omega (arith, c.loop-l-test.true),
+      here_or_before (FitsAt (A after_entry_fits) (k after_entry_fits)) y.l
+          ((decided after_entry_fits).when_yes c.if-not-entry_fits.false) y.invariant.1,
+    )
 
 pub returns : goal.returns
 returns c = let y = c.loop-l in decided_yes (λ i below. y.invariant.1 i (omega (arith, c.loop-l-test.false)))

@@ -1,5 +1,4 @@
 -- `bounds::rows_fit` meets its contract. The loop's invariant: the rows before k fit.
-use Prim.Native.Nat.{◌-◌}
 use native.Mathlib.Omega.{arith}
 use Rattle.chain.specs.Decides.{decided_yes, decided_no}
 use Rattle.chain.specs.Residues.{RowFits}

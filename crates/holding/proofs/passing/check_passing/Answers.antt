@@ -3,7 +3,6 @@ use mathlib.Core.Path.{◌≡◌, sym, ◌∙◌}
 use Rattle.definitions.specs.Words.{part}
 use Rattle.definitions.specs.Matrix.{passes}
 use Rattle.chain.specs.Arrays.{figures_of, mean_of}
-use Rattle.chain.specs.Decides.{not_yes, not_no}
 use Rattle.chain.specs.Judge as J
 use Rattle.chain.specs.Judge.{own_fits}
 use Rattle.holding.specs.State.{Held, Fits, held_at}
@@ -46,7 +45,9 @@ module _ (c : After-passes) where
   passing = sym (J.passing s.figures s.mean _ (c.residues-tested.ensures.are c.if-not-tested.false) c.passes.ensures)
 
 pub returns-then-not-passes : goal.returns-then-not-passes
-returns-then-not-passes c = passing_failing (open_file (goal.at.returns-then-not-passes c).Else-not-tested) (passing (goal.at.returns-then-not-passes c).After-passes ∙ c.if-not-passes.true)
+returns-then-not-passes c =
+    passing_failing (open_file (goal.at.returns-then-not-passes c).Else-not-tested)
+    (passing (goal.at.returns-then-not-passes c).After-passes ∙ c.if-not-passes.true)
 
 pub returns : goal.returns
 returns c = passing_held (open_file (goal.at.returns c).Else-not-tested) (passing (goal.at.returns c).After-passes ∙ c.if-not-passes.false)

@@ -1,6 +1,6 @@
 -- `layout::checks::check_signed` meets its contract. The loop's invariant: the fields from k on give what all of them give. The measure is how many
 -- are left. Assumes nothing.
-use Prim.Native.Nat.{◌+◌, ◌-◌, ◌≤◌}
+use Prim.Native.Nat.{◌+◌, ◌≤◌}
 use mathlib.Core.Path.{◌≡◌}
 use native.Mathlib.Omega.{arith}
 use lib.ListN.{length}

@@ -1,6 +1,6 @@
 -- `layout::checks::check_unsigned` meets its contract. The loop's invariant: the fields from k on give what all of them give. The measure is how many
 -- are left. Assumes nothing.
-use Prim.Native.Nat.{◌+◌, ◌-◌, ◌≤◌}
+use Prim.Native.Nat.{◌+◌, ◌≤◌}
 use mathlib.Core.Bool.{Bool}
 use mathlib.Core.Path.{◌≡◌, sym, ap, ◌∙◌}
 use native.Mathlib.Omega.{arith}
@@ -52,7 +52,8 @@ decided c r is = ap (allowed c.args.limits) (sym (was_read c)) ∙ sym is
 pub returns-then-not-allows : goal.returns-then-not-allows
 unfolding unsigned_run
 returns-then-not-allows c =
-    left_bad c.loop-k.invariant c.loop-k-test.true (decided (goal.at.returns-then-not-allows c).In-Value c.allows.result c.allows.ensures ∙ c.if-not-allows.true)
+    left_bad c.loop-k.invariant c.loop-k-test.true
+    (decided (goal.at.returns-then-not-allows c).In-Value c.allows.result c.allows.ensures ∙ c.if-not-allows.true)
 
 pub loop-k-preserved : goal.loop-k-preserved
 loop-k-preserved c =

@@ -1,5 +1,4 @@
 -- `observations::inside::marks_inside` meets its contract. The loop's invariant: the marks passed are inside.
-use Prim.Native.Nat.{◌-◌}
 use native.Mathlib.Omega.{arith}
 use Rattle.laws.proofs.Filled.{filled_none, filled_next, filled_to}
 use Rattle.observations.specs.Inside.{mark_within}

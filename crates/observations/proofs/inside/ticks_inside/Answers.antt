@@ -1,5 +1,4 @@
 -- `observations::inside::ticks_inside` meets its contract. The loop's invariant: the numbers passed are inside.
-use Prim.Native.Nat.{◌-◌}
 use mathlib.Core.Path.{ap, ◌∙◌}
 use native.Mathlib.Omega.{arith}
 use lib.IntN.{pos}

@@ -1,5 +1,4 @@
 -- `observations::inside::weights_inside` meets its contract. The loop's invariant: the weights passed are inside.
-use Prim.Native.Nat.{◌-◌}
 use mathlib.Core.Path.{ap₂, ◌∙◌}
 use native.Mathlib.Omega.{arith}
 use Rattle.laws.proofs.Filled.{filled_none, filled_next, filled_to}

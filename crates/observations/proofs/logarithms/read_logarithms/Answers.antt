@@ -1,5 +1,5 @@
 -- `observations::logarithms::read_logarithms` meets its contract. The loops' invariant: the cells passed have the logarithms of their amounts.
-use Prim.Native.Nat.{◌*◌, ◌-◌, ◌≤◌, ◌<◌}
+use Prim.Native.Nat.{◌*◌, ◌≤◌, ◌<◌}
 use mathlib.Core.Path.{◌≡◌, ap, ◌∙◌}
 use native.Mathlib.Omega.{arith}
 use lib.IntN.{pos}

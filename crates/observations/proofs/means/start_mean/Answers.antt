@@ -1,5 +1,5 @@
 -- `observations::means::start_mean` meets its contract. The loop's invariant: the parts passed have their prior means.
-use Prim.Native.Nat.{◌-◌, ◌<◌}
+use Prim.Native.Nat.{◌<◌}
 use native.Mathlib.Omega.{arith}
 use lib.IntN.{pos}
 use Rattle.integers.specs.Bits.{read}

@@ -1,5 +1,4 @@
 -- `observations::parts::read_parts` meets its contract. The loop's invariant: the parts passed are read.
-use Prim.Native.Nat.{◌-◌}
 use native.Mathlib.Omega.{arith}
 use Rattle.observations.specs.ReadLaws.{parts_none, parts_to}
 use Rattle.observations.proofs.parts.read_parts.Goals as goal

@@ -91,8 +91,12 @@ bounds-weights-k c =
 
 pub loop-k-preserved : goal.loop-k-preserved
 loop-k-preserved c =
-    let in_loop_k = (goal.at.loop-k-preserved c).In-loop-k in
-    (omega (arith, below in_loop_k), sum in_loop_k, weighed_next c.loop-k.invariant.2 (year in_loop_k) (below in_loop_k) (few in_loop_k) (c.weight_of-weight.ensures ∙ ap weight (sum in_loop_k)))
+    let in_loop_k = (goal.at.loop-k-preserved c).In-loop-k in (
+      omega (arith, below in_loop_k),
+      sum in_loop_k,
+      weighed_next c.loop-k.invariant.2 (year in_loop_k) (below in_loop_k) (few in_loop_k)
+          (c.weight_of-weight.ensures ∙ ap weight (sum in_loop_k)),
+    )
 
 pub returns : goal.returns
 returns c =

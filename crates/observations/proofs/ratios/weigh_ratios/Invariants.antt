@@ -1,6 +1,6 @@
 -- `observations::ratios::weigh_ratios` meets its contract. The loop's invariant: the years from k on are weighed, and the variances to come
 -- after k are added up.
-use Prim.Native.Nat.{◌-◌, ◌≤◌}
+use Prim.Native.Nat.{◌≤◌}
 use mathlib.Core.Path.{◌≡◌}
 use Rattle.observations.specs.Arrays.{at}
 use Rattle.observations.specs.Ratios.{ratio_from, WeighedFrom}

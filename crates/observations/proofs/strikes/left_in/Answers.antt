@@ -1,5 +1,5 @@
 -- `observations::strikes::left_in` meets its contract. The loop's invariant: the parts passed are counted.
-use Prim.Native.Nat.{◌-◌, ◌<◌}
+use Prim.Native.Nat.{◌<◌}
 use mathlib.Core.Path.{ap, ◌∙◌}
 use native.Mathlib.Omega.{arith}
 use Rattle.definitions.specs.Kept.{steps_of}

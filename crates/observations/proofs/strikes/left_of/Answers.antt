@@ -1,5 +1,5 @@
 -- `observations::strikes::left_of` meets its contract. The loop's invariant: those of the first i steps are counted.
-use Prim.Native.Nat.{◌+◌, ◌*◌, ◌-◌, ◌<◌}
+use Prim.Native.Nat.{◌+◌, ◌*◌, ◌<◌}
 use mathlib.Core.Path.{◌≡◌, sym, ap, ◌∙◌}
 use native.Mathlib.Omega.{arith}
 use Rattle.integers.specs.Total.{total_zero}

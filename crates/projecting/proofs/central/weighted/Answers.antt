@@ -44,7 +44,8 @@ returns c =
     record {
       divided = record {
         whole =
-            ap (λ q. q *ℤ pos ((paid after_product_of_incurred).variance.0 + (incurred after_product_of_incurred).variance.0) +ℤ pos c.divided-found.result.rest)
+            ap (λ q. q *ℤ pos ((paid after_product_of_incurred).variance.0 + (incurred after_product_of_incurred).variance.0)
+            +ℤ pos c.divided-found.result.rest)
             (same c.divided-found.result.floor c.struct_told-3-1.given.0.1)
             ∙ c.divided-found.ensures.whole
             ∙ value_is c.requires (of_paid after_product_of_incurred) (of_incurred after_product_of_incurred) c.sum.ensures;

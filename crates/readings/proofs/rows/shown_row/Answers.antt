@@ -27,7 +27,13 @@ inside : (c : After-row_start-first)
     → let year = c.args.year in
     c.row_start-first.result + (c.last_year-last.result + 1 - year) ≤ c.cells_of.result
 inside c =
-    omega (arith, block (goal.at.overflow_mul-first c).After-cells_of, start c, row_in_block (J (goal.at.overflow_mul-first c).After-cells_of) c.args.year c.requires.year)
+    omega (
+      arith,
+      block (goal.at.overflow_mul-first c).After-cells_of,
+      start c,
+      row_in_block
+          (J (goal.at.overflow_mul-first c).After-cells_of) c.args.year c.requires.year,
+    )
 
 pub overflow_mul-middle : goal.overflow_mul-middle
 overflow_mul-middle c = omega (arith, blocks c)
@@ -47,8 +53,12 @@ slice_bounds-part-count-2 c = omega (arith, blocks (goal.at.slice_bounds-part-co
 pub part-requires : goal.part-requires
 part-requires c =
     let after_row_start_first = (goal.at.part-requires c).After-row_start-first in
-    let two = blocks (goal.at.part-requires c).After-cells_of in
-    (omega arith, simp (length-take, length-drop) (omega (arith, two, inside after_row_start_first)), simp (length-take, length-drop) (omega (arith, two, inside after_row_start_first)))
+    let two = blocks (goal.at.part-requires c).After-cells_of in (
+      omega arith,
+      simp (length-take, length-drop) (omega (arith, two, inside after_row_start_first)),
+      simp (length-take, length-drop)
+          (omega (arith, two, inside after_row_start_first)),
+    )
 
 pub returns : goal.returns
 returns c =
@@ -59,11 +69,13 @@ returns c =
     let end :
     8 * c.row_start-first.result + 8 * (c.last_year-last.result + 1 - c.args.year) ≡ 8 * c.row_start-first.result + 8 * (J after_cells_of + 1 - c.args.year)
     = ap (λ n. 8 * c.row_start-first.result + 8 * (n + 1 - c.args.year)) c.last_year-last.ensures in
-    let middle : c.amounts_at-start.result + 8 * c.cells_of.result ≡ amount_at (J after_cells_of) (cells (J after_cells_of)) = omega (arith, block after_cells_of) in
+    let middle : c.amounts_at-start.result + 8 * c.cells_of.result ≡ amount_at (J after_cells_of) (cells (J after_cells_of)) =
+    omega (arith, block after_cells_of) in
     let at = c.amounts_at-start.result in
     let m = at + 8 * c.cells_of.result - at in
     let n = length s - (at + 8 * c.cells_of.result) in
     let paid : 8 * c.row_start-first.result + 8 * (c.last_year-last.result + 1 - c.args.year) ≤ m = omega (arith, inside after_row_start_first) in
-    let incurred : 8 * c.row_start-first.result + 8 * (c.last_year-last.result + 1 - c.args.year) ≤ n = omega (arith, blocks after_cells_of, inside after_row_start_first) in
+    let incurred : 8 * c.row_start-first.result + 8 * (c.last_year-last.result + 1 - c.args.year) ≤ n =
+    omega (arith, blocks after_cells_of, inside after_row_start_first) in
     c.part.ensures
     ∙ row_bytes_lem s c.args.channel c.args.year c.requires _ _ at _ m n first end paid incurred (omega arith) middle (eqb c.args.channel 0) refl

@@ -93,7 +93,8 @@ loop-l-preserved c = (
 
 -- the first loop is over
 first_done : (c : After-loop-l)
-    → Turned c.args.k (λ i. part c.args.residues.now i +ℤ cell c.args.matrix.now i c.args.k *ℤ stored c.args.change) (part c.args.residues.now) c.loop-l.residues
+    → Turned c.args.k (λ i. part c.args.residues.now i +ℤ cell c.args.matrix.now i c.args.k *ℤ stored c.args.change)
+    (part c.args.residues.now) c.loop-l.residues
 first_done c =
     let all : c.loop-l.l ≡ c.args.k = omega (arith, c.loop-l.invariant.0, c.loop-l-test.false) in
     subst
@@ -103,7 +104,8 @@ first_done c =
 
 -- from the diagonal on
 as_is : (c : In-loop-l-2) → mag (part c.loop-l-2.residues c.loop-l-2.l) < 2 ^ 63
-    → Turned c.args.k (λ i. part c.args.residues.now i +ℤ cell c.args.matrix.now i c.args.k *ℤ stored c.args.change) (part c.args.residues.now) c.loop-l.residues
+    → Turned c.args.k (λ i. part c.args.residues.now i +ℤ cell c.args.matrix.now i c.args.k *ℤ stored c.args.change)
+    (part c.args.residues.now) c.loop-l.residues
     → Residue c.args.last c.args.matrix.now c.args.residues.now c.args.k c.args.change c.loop-l-2.l
     (part c.loop-l-2.residues c.loop-l-2.l) (part c.args.matrix.now (31 * c.loop-l-2.l + c.args.k))
 as_is c told first = record {

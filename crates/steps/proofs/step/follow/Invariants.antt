@@ -18,7 +18,8 @@ decreases-loop-l l = l.k - l.l
 
 abbrev pub invariant-loop-l-2 : goal.invariant-loop-l-2
 invariant-loop-l-2 l =
-    (l.k ≤ l.l) × (l.l ≤ l.parts) × Turned l.l (λ i. part l.initial.residues i +ℤ only (leb l.k i) (cell l.matrix i l.k *ℤ l.change)) (part l.initial.residues) l.residues
+    (l.k ≤ l.l) × (l.l ≤ l.parts)
+    × Turned l.l (λ i. part l.initial.residues i +ℤ only (leb l.k i) (cell l.matrix i l.k *ℤ l.change)) (part l.initial.residues) l.residues
 
 abbrev pub decreases-loop-l-2 : goal.decreases-loop-l-2
 decreases-loop-l-2 l = l.parts - l.l

@@ -24,7 +24,8 @@ channel c = omega (arith, c.if-channel-gt1.false)
 pub returns-then-not-is_step : goal.returns-then-not-is_step
 returns-then-not-is_step c =
     let a = c.args in
-    no_step a.last a.channel a.year a.column a.marks.now (channel (goal.at.returns-then-not-is_step c).Else-channel-gt1) (sym c.is_step.ensures ∙ c.if-not-is_step.true)
+    no_step a.last a.channel a.year a.column a.marks.now (channel (goal.at.returns-then-not-is_step c).Else-channel-gt1)
+    (sym c.is_step.ensures ∙ c.if-not-is_step.true)
 
 -- there is such a step
 module _ (c : Else-not-is_step) where
@@ -48,7 +49,8 @@ mark_is c = let a = c.args in ap (λ n. not (eqb (at a.marks.now n) 0)) c.place_
 pub returns-then-marks-place_of-ne0 : goal.returns-then-marks-place_of-ne0
 returns-then-marks-place_of-ne0 c =
     let a = c.args in
-    struck_already a.last a.channel a.year a.column a.marks.now (channel (goal.at.returns-then-marks-place_of-ne0 c).Else-channel-gt1) (there (goal.at.returns-then-marks-place_of-ne0 c).Else-not-is_step)
+    struck_already a.last a.channel a.year a.column a.marks.now (channel (goal.at.returns-then-marks-place_of-ne0 c).Else-channel-gt1)
+    (there (goal.at.returns-then-marks-place_of-ne0 c).Else-not-is_step)
     (sym (mark_is (goal.at.returns-then-marks-place_of-ne0 c).After-place_of) ∙ ap not (ne_eqb _ 0 c.if-marks-place_of-ne0.true))
 
 pub part_of-k-requires : goal.part_of-k-requires
@@ -97,7 +99,8 @@ pub returns-then-left_of-eq1 : goal.returns-then-left_of-eq1
 returns-then-left_of-eq1 c =
     let after_left_of = (goal.at.returns-then-left_of-eq1 c).After-left_of in
     let s = c.args in
-    last_left s.last s.channel s.year s.column s.marks.now (channel (goal.at.returns-then-left_of-eq1 c).Else-channel-gt1) (there (goal.at.returns-then-left_of-eq1 c).Else-not-is_step)
+    last_left s.last s.channel s.year s.column s.marks.now (channel (goal.at.returns-then-left_of-eq1 c).Else-channel-gt1)
+    (there (goal.at.returns-then-left_of-eq1 c).Else-not-is_step)
     (unmarked_yet after_left_of) (count after_left_of (of_step (goal.at.returns-then-left_of-eq1 c).Else-not-is_step)) c.if-left_of-eq1.true
 
 pub returns : goal.returns

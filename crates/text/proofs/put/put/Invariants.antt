@@ -8,7 +8,8 @@ use Rattle.text.proofs.put.put.Given as goal
 
 abbrev pub invariant-loop-i : goal.invariant-loop-i
 invariant-loop-i l =
-    (length l.page ≡ length l.initial.page) × (l.end ≤ length l.initial.page) × (l.end ≡ l.at + l.i) × (take l.end l.page ≡ take l.at l.initial.page ++ take l.i l.text)
+    (length l.page ≡ length l.initial.page) × (l.end ≤ length l.initial.page) × (l.end ≡ l.at + l.i)
+    × (take l.end l.page ≡ take l.at l.initial.page ++ take l.i l.text)
     × (drop l.end l.page ≡ drop l.end l.initial.page)
 
 abbrev pub decreases-loop-i : goal.decreases-loop-i

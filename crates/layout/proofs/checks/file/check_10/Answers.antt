@@ -71,7 +71,7 @@ returns-then-paid-incurred c =
     let J = last_year s in
     let paid-read = field_read 8 (paid_found d) s c.unsigned_8.ensures c.in-Value.is ∙ ap (λ at. unsigned 8 at s) (paid-place d) in
     let incurred-read =
-        field_read 8 (incurred_found d) s c.unsigned_8-2.ensures c.in-Value-unsigned_8.is ∙ ap (λ at. unsigned 8 at s) (incurred-place d) in
+    field_read 8 (incurred_found d) s c.unsigned_8-2.ensures c.in-Value-unsigned_8.is ∙ ap (λ at. unsigned 8 at s) (incurred-place d) in
     ap (refuses 10) (paid-place d)
     ∙ unless_fails 10 (paid_at J 0 J)
     (ne_eqb (paid s 0 J) (incurred s 0 J) (λ h. c.if-paid-incurred.true (paid-read ∙ h ∙ sym incurred-read)))
@@ -84,5 +84,5 @@ returns c =
     let J = last_year s in
     let paid-read = field_read 8 (paid_found d) s c.unsigned_8.ensures c.in-Value.is ∙ ap (λ at. unsigned 8 at s) (paid-place d) in
     let incurred-read =
-        field_read 8 (incurred_found d) s c.unsigned_8-2.ensures c.in-Value-unsigned_8.is ∙ ap (λ at. unsigned 8 at s) (incurred-place d) in
+    field_read 8 (incurred_found d) s c.unsigned_8-2.ensures c.in-Value-unsigned_8.is ∙ ap (λ at. unsigned 8 at s) (incurred-place d) in
     unless_holds 10 (paid_at J 0 J) (eq-eqb (paid s 0 J) (incurred s 0 J) (sym paid-read ∙ c.if-paid-incurred.false ∙ incurred-read))

@@ -36,16 +36,29 @@ pub returns-in_default : goal.returns-in_default
 returns-in_default c = stopped _ c.check_6-variances.ensures c.in_default.is
 
 pub returns-in_default-prior_variances : goal.returns-in_default-prior_variances
-returns-in_default-prior_variances c = rw (clear-6 (goal.at.returns-in_default-prior_variances c).In-Clear) (stopped _ c.check_7-prior_variances.ensures c.in_default-prior_variances.is)
+returns-in_default-prior_variances c =
+    rw (clear-6 (goal.at.returns-in_default-prior_variances c).In-Clear) (stopped _ c.check_7-prior_variances.ensures c.in_default-prior_variances.is)
 
 pub returns-in_default-prior_means : goal.returns-in_default-prior_means
 returns-in_default-prior_means c =
-    rw (clear-6 (goal.at.returns-in_default-prior_means c).In-Clear, clear-7 (goal.at.returns-in_default-prior_means c).In-Clear-prior_variances) (stopped _ c.check_8-prior_means.ensures c.in_default-prior_means.is)
+    rw (clear-6 (goal.at.returns-in_default-prior_means c).In-Clear, clear-7 (goal.at.returns-in_default-prior_means c).In-Clear-prior_variances)
+    (stopped _ c.check_8-prior_means.ensures c.in_default-prior_means.is)
 
 pub returns-in_default-amounts : goal.returns-in_default-amounts
 returns-in_default-amounts c =
-    rw (clear-6 (goal.at.returns-in_default-amounts c).In-Clear, clear-7 (goal.at.returns-in_default-amounts c).In-Clear-prior_variances, clear-8 (goal.at.returns-in_default-amounts c).In-Clear-prior_means) (stopped _ c.check_9-amounts.ensures c.in_default-amounts.is)
+    rw (
+      clear-6 (goal.at.returns-in_default-amounts c).In-Clear,
+      clear-7 (goal.at.returns-in_default-amounts c).In-Clear-prior_variances,
+      clear-8
+          (goal.at.returns-in_default-amounts c).In-Clear-prior_means,
+    ) (stopped _ c.check_9-amounts.ensures c.in_default-amounts.is)
 
 pub returns : goal.returns
 returns c =
-    rw (clear-6 (goal.at.returns c).In-Clear, clear-7 (goal.at.returns c).In-Clear-prior_variances, clear-8 (goal.at.returns c).In-Clear-prior_means, clear-9 (goal.at.returns c).In-Clear-amounts) c.check_10.ensures
+    rw (
+      clear-6 (goal.at.returns c).In-Clear,
+      clear-7 (goal.at.returns c).In-Clear-prior_variances,
+      clear-8 (goal.at.returns c).In-Clear-prior_means,
+      clear-9
+          (goal.at.returns c).In-Clear-amounts,
+    ) c.check_10.ensures

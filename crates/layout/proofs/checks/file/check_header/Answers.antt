@@ -37,16 +37,29 @@ returns-in_default-year c = rw (clear-2 (goal.at.returns-in_default-year c).In-C
 
 pub returns-in_default-length : goal.returns-in_default-length
 returns-in_default-length c =
-    rw (clear-2 (goal.at.returns-in_default-length c).In-Clear, clear-3 (goal.at.returns-in_default-length c).In-Clear-year) (stopped _ c.check_4-length.ensures c.in_default-length.is)
+    rw (clear-2 (goal.at.returns-in_default-length c).In-Clear, clear-3 (goal.at.returns-in_default-length c).In-Clear-year)
+    (stopped _ c.check_4-length.ensures c.in_default-length.is)
 
 pub returns-in_default-closeness : goal.returns-in_default-closeness
 returns-in_default-closeness c =
-    rw (clear-2 (goal.at.returns-in_default-closeness c).In-Clear, clear-3 (goal.at.returns-in_default-closeness c).In-Clear-year, clear-4 (goal.at.returns-in_default-closeness c).In-Clear-length) (stopped _ c.check_5-closeness.ensures c.in_default-closeness.is)
+    rw (
+      clear-2 (goal.at.returns-in_default-closeness c).In-Clear,
+      clear-3 (goal.at.returns-in_default-closeness c).In-Clear-year,
+      clear-4
+          (goal.at.returns-in_default-closeness c).In-Clear-length,
+    ) (stopped _ c.check_5-closeness.ensures c.in_default-closeness.is)
 
 pub check_figures-requires : goal.check_figures-requires
 check_figures-requires c =
-    whole (file (goal.at.check_figures-requires c).In-Clear) (clear-3 (goal.at.check_figures-requires c).In-Clear-year) (clear-4 (goal.at.check_figures-requires c).In-Clear-length)
+    whole (file (goal.at.check_figures-requires c).In-Clear) (clear-3 (goal.at.check_figures-requires c).In-Clear-year)
+    (clear-4 (goal.at.check_figures-requires c).In-Clear-length)
 
 pub returns : goal.returns
 returns c =
-    rw (clear-2 (goal.at.returns c).In-Clear, clear-3 (goal.at.returns c).In-Clear-year, clear-4 (goal.at.returns c).In-Clear-length, clear-5 (goal.at.returns c).In-Clear-closeness) c.check_figures.ensures
+    rw (
+      clear-2 (goal.at.returns c).In-Clear,
+      clear-3 (goal.at.returns c).In-Clear-year,
+      clear-4 (goal.at.returns c).In-Clear-length,
+      clear-5
+          (goal.at.returns c).In-Clear-closeness,
+    ) c.check_figures.ensures

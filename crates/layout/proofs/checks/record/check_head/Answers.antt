@@ -25,7 +25,8 @@ check_version-version-requires c = length_least 5 c.args.r.now (clear-length c)
 
 pub returns-in_default-version : goal.returns-in_default-version
 unfolding record_head check2
-returns-in_default-version c = rw (clear-length (goal.at.returns-in_default-version c).In-Clear) (stopped _ c.check_version-version.ensures c.in_default-version.is)
+returns-in_default-version c =
+    rw (clear-length (goal.at.returns-in_default-version c).In-Clear) (stopped _ c.check_version-version.ensures c.in_default-version.is)
 
 pub returns-then-r-record_length : goal.returns-then-r-record_length
 unfolding record_head check2
