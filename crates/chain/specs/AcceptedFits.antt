@@ -15,7 +15,7 @@ use Rattle.laws.specs.Chains.{Bounded}
 use Rattle.laws.proofs.Chains.{carried_owned}
 use Rattle.laws.proofs.ChainLimits.{chain_limits, entry_fits, diagonal_fits, right_hand_fits}
 use Rattle.laws.proofs.Diagonal.{diagonal_owned}
-use Rattle.laws.proofs.StruckChain.{struck_chain}
+use Rattle.laws.proofs.StruckFiles.{struck_chain}
 use Rattle.laws.proofs.Judged.{entry_of_chain}
 use Rattle.laws.proofs.Tables.{tab_at}
 use Rattle.chain.specs.Fitting.{Fitting, diagonal_limit, entry_limit}

@@ -14,7 +14,7 @@ use Rattle.laws.proofs.PrecisionMatrix.{firsts_of}
 use Rattle.laws.proofs.Sizes.{Limits, entry_limit_lem, ratios_limit, target_limit, residue_limit_lem}
 use Rattle.laws.specs.Chains.{weight_limit, share_limit, observed_limit, Bounded}
 use Rattle.laws.proofs.Chains.{by_own}
-use Rattle.laws.specs.ChainLimits.{firsts_limit, own_limit}
+use Rattle.laws.specs.ChainLimits.{firsts_limit, own_limit, ResidueFits}
 
 own_limit_lem : {s n : ℕ} (w : ℕ → ℕ) → s ≤ weight_limit → n ≤ 16 → ((i : ℕ) → i < n → w i ≤ weight_limit) → s + total n w ≤ own_limit
 own_limit_lem {n = n} w prior few light = omega (arith, prior, total_bound n weight_limit light, mul-le-mul_right weight_limit few)
@@ -95,7 +95,7 @@ module _ (c : Chain) (h : Bounded c) where
   right_hand_fits k below = omega (arith, target_limit c chain_limits k below, mul-le-mul_right (share_limit * observed_limit) h.years)
 
   pub residue_fits : (μ : Vector) → ((l : ℕ) → l < parts J → nat_abs (μ l) ≤ part_limit) → (k : ℕ) → k < parts J
-      → nat_abs (residue_times c 1 μ k) ≤ 19732 * 2 ^ 47
+      → ResidueFits c μ k
   residue_fits μ small k below =
       let row = mul-le-mul_right (share_limit * part_limit) years_limit in
       let target = mul-le-mul_right (share_limit * observed_limit) h.years in

@@ -12,6 +12,7 @@ use Rattle.definitions.specs.Observations.{Chain, chain_of, σ², τ², paid_ste
 use Rattle.definitions.specs.Matrix.{Φ, Ψ, own_of, own, target_of, right_hand_side, ratios_of_last}
 use Rattle.laws.proofs.PrecisionMatrix.{firsts_of}
 use Rattle.laws.proofs.Ranks.{part_by_index_phi, part_by_index_psi}
+use Rattle.laws.specs.Columns.{OwnOfPhi}
 use Rattle.laws.specs.StruckSteps.{left_of}
 
 -- n observations of one weight, of which some are struck
@@ -38,7 +39,7 @@ module _ (n w : ℕ) (p : ℕ → ℕ) (struck : ℕ → Bool) (one : (i : ℕ) 
 
 module _ (c : Chain) where
   module _ (j w : ℕ) (struck : ℕ → Bool) (below : j ≤ c.last) (one : (i : ℕ) → i + j ≤ c.last → c.p i j ≡ cond (struck i) 0 w) where
-    pub own_of_phi : own_of c (Φ j) ≡ c.s j + left_of (c.last - j + 1) struck * w
+    pub own_of_phi : OwnOfPhi c j w struck
     own_of_phi = ap (λ t. c.s j + t) (total_of_one (c.last - j + 1) w (λ i. c.p i j) struck (λ i there. one i (omega arith)))
 
     pub firsts_of_phi : firsts_of c (Φ j)

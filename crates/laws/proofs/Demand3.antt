@@ -11,7 +11,7 @@ use Rattle.definitions.specs.Strikes.{chain_left}
 use Rattle.definitions.specs.Guarantee.{Guarantee, RoundingPasses, Demand3, ZeroResidue}
 use Rattle.laws.specs.Chains.{Carried}
 use Rattle.laws.proofs.Chains.{carried_owned}
-use Rattle.laws.proofs.StruckChain.{struck_chain}
+use Rattle.laws.proofs.StruckFiles.{struck_chain}
 use Rattle.laws.proofs.FormGuarantee as Form
 use Rattle.laws.proofs.Judged.{SmallResidues, small_of_passes, passes_of_small}
 use Rattle.laws.proofs.LossForm.{loss_is_form}

@@ -26,7 +26,8 @@
 --   SameChains        the figures of a chain depend on its triangles alone
 --   FileWeights       the weights of an accepted file, each g at most those whose variances are in its sum: each observation carries
 --   FileChain         the sizes of an accepted file's observations: its chain is bounded
---   StruckChain       without its struck steps an accepted file's chain is bounded and carried
+--   StruckChain       without its struck steps a chain is bounded and carried where it was
+--   StruckFiles       and so is an accepted file's
 --   StruckLoss        a struck step's term leaves the loss, and nothing else does
 --   Marks             what a session keeps holds the file's chain, and a step is struck out of both alike
 --   FormGuarantee     nearly least, near, strictly least, for such a loss
@@ -110,6 +111,7 @@ pub mod SameChains
 pub mod Sizes
 pub mod StepLaws
 pub mod StruckChain
+pub mod StruckFiles
 pub mod StruckLoss
 pub mod StruckSteps
 pub mod SweepLaws

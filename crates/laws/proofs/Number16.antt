@@ -18,7 +18,7 @@ use Rattle.definitions.specs.Matrix.{part_by_index, own, matrix}
 use Rattle.definitions.specs.Machine.{State, empty, holds, Keeping, Outcome, refused, Call, answers, open_unless, open_call, outcome}
 use Rattle.laws.proofs.ClearChecks.{fields_good, fields_bad}
 use Rattle.laws.proofs.Accepted.{accepted_file}
-use Rattle.laws.proofs.StruckChain.{file_chain}
+use Rattle.laws.proofs.StruckFiles.{file_chain}
 use Rattle.laws.proofs.Diagonal.{diagonal_positive}
 use Rattle.laws.proofs.Pinned.{in_table}
 

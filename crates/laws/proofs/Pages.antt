@@ -13,7 +13,7 @@ use Rattle.definitions.specs.Text.{ascii, space, line_feed, decimal_from, more_d
 use Rattle.definitions.specs.Page.{page_line, page_of, columns, LineFits, PageFits}
 use Rattle.laws.proofs.Accepted.{accepted_file}
 use Rattle.laws.proofs.ChainLimits.{chain_limits}
-use Rattle.laws.proofs.StruckChain.{struck_chain}
+use Rattle.laws.proofs.StruckFiles.{struck_chain}
 use Rattle.laws.proofs.Tables.{tab_at}
 use Rattle.laws.specs.Decimal.{From}
 use Rattle.laws.proofs.Decimal.{aligned_read, aligned_length, decimal_length, signed_length, from_append, aligned_from}

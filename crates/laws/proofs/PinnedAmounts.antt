@@ -22,7 +22,7 @@ use Rattle.laws.specs.Chains.{Bounded}
 use Rattle.laws.proofs.ChainLimits.{phi_firsts, psi_firsts, ratios_fit, right_hand_fits, residue_fits, numerator_fits}
 use Rattle.laws.proofs.Columns.{firsts_of_phi, firsts_of_psi}
 use Rattle.laws.proofs.FileChain.{logarithm_limit, x_limit, z_limit, y_limit, x_sum_fits, z_sum_fits}
-use Rattle.laws.proofs.StruckChain.{file_chain}
+use Rattle.laws.proofs.StruckFiles.{file_chain}
 
 -- the amounts that number 9 calls good
 pub amount_taken : (a : ℕ) → (good_amount a ≡ true) ↔ ((1 ≤ a) × (a ≤ 17592186044416))

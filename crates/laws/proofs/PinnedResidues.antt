@@ -20,7 +20,7 @@ use Rattle.laws.proofs.ObservedResidues.{observed_is_residue, residues_read}
 use Rattle.laws.proofs.Ranks.{part_by_index_phi, part_by_index_psi}
 use Rattle.laws.specs.ReachedStates.{after}
 use Rattle.laws.proofs.ReachedStates.{Good, reached_good}
-use Rattle.laws.proofs.StruckChain.{struck_chain}
+use Rattle.laws.proofs.StruckFiles.{struck_chain}
 use Rattle.laws.proofs.Theorem34.{residue_is_observed}
 
 module _ (f : StruckFile) (u : Vector) where

@@ -18,7 +18,7 @@ use Rattle.definitions.specs.Machine.{State, empty, holds, map_state, Outcome, t
 use Rattle.definitions.specs.Programs.{count_line, part_line, refusal_line, spent_line, Show, printed, shown, sweep_text, open_text, program_text}
 use Rattle.definitions.specs.Programs.{listed, listing}
 use Rattle.laws.proofs.Accepted.{accepted_file}
-use Rattle.laws.proofs.StruckChain.{file_chain}
+use Rattle.laws.proofs.StruckFiles.{file_chain}
 use Rattle.laws.proofs.SweepLaws.{MeanOf, sweeps_came}
 use Rattle.laws.proofs.ReachedStates.{priors_mean}
 use Rattle.laws.proofs.Decimal.{decimal_most, signed_most}

@@ -19,7 +19,7 @@ use Rattle.laws.specs.Accepted.{AcceptedFile}
 use Rattle.laws.proofs.Accepted.{accepted_file}
 use Rattle.laws.proofs.MachineLaws.{residues_alone}
 use Rattle.laws.proofs.StruckSteps.{strike_leaves, strikable}
-use Rattle.laws.proofs.StruckChain.{struck_chain, admitted}
+use Rattle.laws.proofs.StruckFiles.{struck_chain, admitted}
 use Rattle.laws.proofs.Tables.{tab_at, tab_from_length}
 use Rattle.laws.proofs.SweepLaws.{MeanOf, sweeps_came}
 use Rattle.laws.specs.ReachedStates.{after}

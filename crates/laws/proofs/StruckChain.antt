@@ -1,20 +1,14 @@
--- A chain without the struck steps is bounded where the whole chain is, and carried where a step is left in each column: and so is that of
--- every accepted file, whatever is struck.
+-- A chain without the struck steps is bounded where the whole chain is, and carried where a step is left in each column.
 use Rattle.std.specs.Prelude.{ℕ, ◌+◌, ◌-◌, ◌≤◌, ◌<◌, ◌≡◌, refl, Bool, true, false, cond}
 use Rattle.std.proofs.Common.{zero-le, subst, le_trans, arith}
 use Rattle.std.proofs.Math.Decide.{dec_le, dec_lt}
 use Rattle.integers.specs.Total.{total_const}
-use Rattle.definitions.specs.Layout.{Bytes, last_year, parts}
-use Rattle.definitions.specs.Refusals.{accepted}
-use Rattle.definitions.specs.Observations.{Chain, chain_of}
+use Rattle.definitions.specs.Layout.{parts}
+use Rattle.definitions.specs.Observations.{Chain}
 use Rattle.definitions.specs.Matrix.{own}
-use Rattle.definitions.specs.Strikes.{Step, step, left_beside, EachLeft, without, StruckFile, is_struck, Admitted, unstruck, chain_left}
-use Rattle.laws.specs.Accepted.{AcceptedFile}
-use Rattle.laws.proofs.Accepted.{accepted_file}
+use Rattle.definitions.specs.Strikes.{Step, step, left_beside, EachLeft, without}
 use Rattle.laws.specs.Chains.{Bounded, Carried, Counted, Carries}
 use Rattle.laws.proofs.Chains.{by_own, own_of_x, own_of_z}
-use Rattle.laws.proofs.FileWeights.{file_carries}
-use Rattle.laws.proofs.FileChain.{file_bounded}
 use Rattle.laws.proofs.StruckSteps.{some_left}
 
 -- nothing is struck
@@ -116,19 +110,3 @@ module _ (c : Chain) (struck : Step → Bool) where
       z_shares = λ d j past. by_z j (λ i. c.g d ≤ left.q i j) (λ below.
           let i = left_z j below in subst (λ w. c.g d ≤ w) (z_weight j below) (carries.z_shares d i.0 j past i.1)) (dec_lt j J);
     }
-
--- ---- of every accepted file
-
-pub struck_chain : (f : StruckFile) → Admitted f → Bounded (chain_left f) × Carried (chain_left f)
-struck_chain f h =
-    let known = accepted_file f.file h.taken in (
-      left_bounded (chain_of f.file) (is_struck f) (file_bounded f.file known),
-      left_carried (chain_of f.file) (is_struck f) h.left (file_carries f.file known),
-    )
-
--- as it is opened
-pub file_chain : (f : Bytes) → AcceptedFile f → Bounded (chain_of f) × Carried (chain_of f)
-file_chain f h = (file_bounded f h, left_carried (chain_of f) (λ s. false) (none_struck (last_year f)) (file_carries f h))
-
-pub admitted : (f : Bytes) → accepted f ≡ true → Admitted (unstruck f)
-admitted f yes_file = record { taken = yes_file; left = none_struck (last_year f) }

@@ -16,7 +16,7 @@ use Rattle.definitions.specs.Ultimate.{Latest, latest_of, Divided, paid_variance
 use Rattle.definitions.specs.Ultimate.{numerator, both_variances, ultimate_of}
 use Rattle.laws.specs.Accepted.{AcceptedFile}
 use Rattle.laws.proofs.FileWeights.{ratio_variance_least}
-use Rattle.laws.specs.Ultimates.{SameLatest, of}
+use Rattle.laws.specs.Ultimates.{SameLatest, of, UltimateDivided, DivisorIs}
 
 -- ---- rounded down, with a remainder
 
@@ -44,8 +44,7 @@ divided_unique {n} {q} {r} {d} h =
 -- ---- the central ultimate
 
 module _ (J : ℕ) (a : Latest) (i : ℕ) (u : Vector) where
-  -- where some variance is to come
-  pub ultimate_divided : 0 < both_variances J a i → Divided (numerator J a i u) (ultimate_of J a i u)
+  pub ultimate_divided : UltimateDivided J a i u
   unfolding ultimate_of
   ultimate_divided some = floor_divided (numerator J a i u) some
 
@@ -86,8 +85,7 @@ module _ {J : ℕ} {a b : Latest} (same : SameLatest J a b) {i : ℕ} (there : i
 -- ---- of an accepted file
 
 module _ (f : Bytes) (h : AcceptedFile f) {i : ℕ} (from : 1 ≤ i) (to : i ≤ last_year f) where
-  -- the variance whose weight is g of the year's last development year
-  pub divisor_is : both_variances (last_year f) (latest_of f) i ≡ ratio_variance f (last_year f - i)
+  pub divisor_is : DivisorIs f i
   unfolding paid_variance incurred_variance ratio_variance
   divisor_is =
       ap (λ n. total n (λ m. σ² f (last_year f - i + 1 + m)) + total n (λ m. τ² f (last_year f - i + m))) (omega arith)

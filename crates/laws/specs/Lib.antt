@@ -3,6 +3,7 @@ pub mod Accepted
 pub mod ChainLimits
 pub mod Chains
 pub mod ClearChecks
+pub mod Columns
 pub mod Decimal
 pub mod Filled
 pub mod FlatPriors

@@ -10,7 +10,7 @@ use Rattle.definitions.specs.Strikes.{unstruck}
 use Rattle.laws.specs.Accepted.{AcceptedFile}
 use Rattle.laws.proofs.Accepted.{accepted_file}
 use Rattle.laws.proofs.FileChain.{logarithm_limit}
-use Rattle.laws.proofs.StruckChain.{admitted}
+use Rattle.laws.proofs.StruckFiles.{admitted}
 use Rattle.laws.proofs.FileWeights.{part_to, prior_to, g_to}
 use Rattle.laws.proofs.Tables.{tab_cong}
 use Rattle.observations.specs.declared.Observations.{Observations}

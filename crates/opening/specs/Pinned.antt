@@ -8,7 +8,7 @@ use Rattle.definitions.specs.Refusals.{Check, clear, refuses, file_check, is_cle
 use Rattle.definitions.specs.Strikes.{unstruck}
 use Rattle.definitions.specs.Machine.{Answer, opened, refused, empty, holds, map_state, Outcome, open_unless, open_call}
 use Rattle.definitions.specs.Kept.{Kept, kept_of, in_session}
-use Rattle.laws.proofs.StruckChain.{admitted}
+use Rattle.laws.proofs.StruckFiles.{admitted}
 use Rattle.laws.proofs.Number16.{open_with16, alike_without_16}
 use Rattle.observations.specs.declared.Observations.{Observations}
 use Rattle.holding.specs.State.{Held, state_of, kept_with, session_state, HoldsFile}

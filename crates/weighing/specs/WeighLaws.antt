@@ -21,7 +21,7 @@ use Rattle.laws.proofs.Marks.{chain_kept_lem}
 use Rattle.laws.proofs.NumberBytes.{number_bytes_cong}
 use Rattle.laws.proofs.ObservedResidues.{residues_long, residues_read, observed_same}
 use Rattle.laws.proofs.SameChains.{same_self}
-use Rattle.laws.proofs.StruckChain.{struck_chain}
+use Rattle.laws.proofs.StruckFiles.{struck_chain}
 use Rattle.laws.proofs.Tables.{tab_at}
 use Rattle.layout.specs.CheckLaws.{then_clear}
 use Rattle.observations.specs.declared.Observations.{Observations}

@@ -13,7 +13,7 @@ use Rattle.definitions.specs.Machine.{page_in}
 use Rattle.definitions.specs.Programs.{paged}
 use Rattle.laws.proofs.Accepted.{accepted_file}
 use Rattle.laws.proofs.Pages.{file_page_fits}
-use Rattle.laws.proofs.StruckChain.{admitted}
+use Rattle.laws.proofs.StruckFiles.{admitted}
 use Rattle.settling.specs.Printed.{prints_front, prints_as}
 use Rattle.settling.specs.Settles.{WritesWhole, writes_whole}
 use Rattle.board_page.proofs.page_mean.Statement.{statement}
