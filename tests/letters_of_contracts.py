@@ -32,8 +32,8 @@ PROMISED = {
         "(L.chain (φ x)).last ≡ (K.chain x).last pub chain : (x : X) → SameChain (K.chain x) (L.chain (φ x)) pub struck_x : (x : X) (i "
         "j : ℕ) → i + j ≤ (K.figures x).last → L.struck (φ x) (step 0 i j) ≡ K.struck x (step 0 i j) pub struck_z : (x : X) (i j : ℕ) → "
         "i + j < (K.figures x).last → L.struck (φ x) (step 1 i j) ≡ K.struck x (step 1 i j) pub strikes : (x : X) (s : Step) → φ "
-        "(K.strike_out s x) ≡ L.strike_out s (φ x) | module _ {X Y : Type 0} (K : Keeping X) (L : Keeping Y) (φ : X → Y) (h : Alike K L "
-        "φ) where",
+        "(K.strike_out s x) ≡ L.strike_out s (φ x) | |",
+        "| module _ {X Y : Type 0} (K : Keeping X) (L : Keeping Y) (φ : X → Y) (h : Alike K L φ) where",
     ),
     "laws/Ultimates": (
         "| pub record SameLatest (J : ℕ) (a b : Latest) : Type 0 where pub log_paid : (i : ℕ) → i ≤ J → a.log_paid i ≡ b.log_paid i pub "
@@ -134,7 +134,7 @@ PROMISED = {
         "year_limit ∷ (2 * cells year_limit + parts year_limit) ∷ (2 * parts year_limit + year_limit) ∷ parts year_limit ∷ (parts "
         "year_limit * (year_limit + 1)) ∷ [] | abbrev pub size_of : ℕ → ℕ | size_of array = get_or sizes array 0 |",
     ),
-    "laws/StruckChain": (
+    "laws/StruckFiles": (
         "| pub struck_chain : (f : StruckFile) → Admitted f → Bounded (chain_left f) × Carried (chain_left f) | struck_chain",
         "| pub file_chain : (f : Bytes) → AcceptedFile f → Bounded (chain_of f) × Carried (chain_of f) | file_chain",
     ),

@@ -48,7 +48,8 @@ def path_of(text: str, named: Named) -> str | None:
     text = declared.short_folders().get(letter, letter) + slash + rest
     inside = f"crates/{named.crate}/{text}"
     names = [text.rstrip("/"), f"{text}.antt", *([inside, f"{inside}.antt"] if named.crate and "/" in text else [])]
-    names += [f"{text}.antt".replace("/specs/", "/proofs/")] if slash and len(letter) == 1 else []  # a theorem, of the crate that the letter has
+    # a theorem, of the crate that the letter has
+    names += [f"{text}.antt".replace("/specs/", "/proofs/")] if slash and len(letter) == 1 else []
     known = files().keys() | folders() | made_by_build()
     pattern = re.escape(text).replace(r"\*", "[^/]*")
     is_pattern = "*" in text and any(re.fullmatch(pattern, name) for name in files())

@@ -23,7 +23,7 @@ SPECS = ROOT / "crates" / "definitions" / "specs"
 DEFINED_IN = ("Logarithm", "Refusals", "Sweep", "Strikes", "Machine", "Guarantee")
 DEFINITIONS = "".join((SPECS / f"{name}.antt").read_text() for name in DEFINED_IN)
 PAGE, LAYOUT = ((SPECS / f"{name}.antt").read_text() for name in ("Page", "Layout"))
-LAW = (ROOT / "crates" / "laws" / "specs" / "Pinned.antt").read_text()
+LAW = (ROOT / "crates" / "laws" / "proofs" / "Pinned.antt").read_text()
 CALLS = "".join((ROOT / "crates" / source).read_text() for source in ("session/src/calls.rt", "desk/src/exports.rt"))
 
 # Where the definitions write the numbers that a refusal's words repeat, in the order of the words.

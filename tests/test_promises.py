@@ -100,7 +100,7 @@ PINNED = {
         ") ( Machine opens judges judges_alone sweeps reads reads_alone pages pages_alone ultimates strikes residues_by residues_state "
         "shows tells closes machine ) in_table same_outcomes row_empty loss_around",
     "laws/PinnedChains":
-        "by_year Figured own_weights entries right_hands loss_of_u loss_of_half_u figured ( by_year_bounded by_year_carried ( "
+        "by_year u Figured own_weights entries right_hands loss_of_u loss_of_half_u figured ( by_year_bounded by_year_carried ( "
         "by_year_worth by_year_rounding ) )",
     "laws/PinnedAmounts":
         "amount_taken ( up_to up_to_2^44 ( as_before opened_as_before row_as_before ) same_to_2^40 ( logarithm_to paid_step_to "
@@ -121,7 +121,7 @@ PINNED = {
     "row_starts/Pinned": "( sixteen cells_counted none_counted )",
     "holding/Pinned": "( open-file ( reached_open reached_holds ) )",
     "laws/Columns":
-        "( ) ( ( own_of_phi firsts_of_phi ) ( own_of_psi firsts_of_psi ) ) ( ( own_phi right_hand_phi ) own_psi right_hand_psi )",
+        "OwnOfPhi ( ) ( ( own_of_phi firsts_of_phi ) ( own_of_psi firsts_of_psi ) ) ( ( own_phi right_hand_phi ) own_psi right_hand_psi )",
     "opening/Pinned": "open_refused ( opened_keeps opened_holds ) as_with_16",
     "judging/Pinned": "( judge_worth judge_rounded )",
     "sweeping/Pinned": "( sweep_worth sweep_rounded ) sweep_refused",

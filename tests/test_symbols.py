@@ -178,7 +178,8 @@ class Symbols(unittest.TestCase):
         for name in sources(".antt"):
             fixities = re.findall(r"^\s*infix[lr]? +\d+ (.*)", text_of(name), re.MULTILINE)
             operators = {operator for line in fixities for operator in line.split()}
-            self.assertEqual(operators, {operator for operator in own if own[operator] == file_at(name)}, name)
+            declared = {operator for operator in own if own[operator] == file_at(name) and name == antt_file(own[operator])}
+            self.assertEqual(operators, declared, name)
 
     def test_every_name_is_brought_by_a_line_that_says_it(self) -> None:
         for name in said():

@@ -27,8 +27,8 @@ unfolding count_leading_zeros sum total tab_from logarithm half_ticks bits_of hi
     ratio_variance paid_step incurred_step last_ratio figures_from part_by_index own matrix right_hand_side residue judge_from
     ascii decimal_from signed_decimal aligned name_of index_of lines page_line part_line open_call sweep_call write_call
     sweep_text open_text program_text listed paid_variance incurred_variance paid_ultimate incurred_ultimate ultimate_of ultimate_call
-    is_step left_beside strike_check strike_call outcome paid_step_in marks_of marked ratio observed_times residue_bytes bytes_of complement four_bytes part_bytes
-    number_bytes record_check residues_call
+    is_step left_beside strike_check strike_call outcome paid_step_in marks_of marked ratio observed_times residue_bytes bytes_of
+    complement four_bytes part_bytes number_bytes record_check residues_call
 joint_table = record {
   log_of_1 = refl;
   log_of_2^40 = refl;
