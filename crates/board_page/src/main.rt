@@ -9,12 +9,12 @@ ghost use Rattle.session.specs.Value.{held_by};
 ghost use Rattle.settling.specs.Printed.{Prints};
 
 use layout::places::last_year;
-use libc::{STDIN_FILENO, STDOUT_FILENO};
 use pages::page_length;
 use session::Session;
 use session::answers::{SweepAnswer, WriteAnswer};
 use session::calls::page;
-use settling::{Printed, ROOM, refused, settle, spent};
+use settling::{Printed, ROOM, read_full, refused, settle, spent};
+use std::io;
 
 // The page of the mean that settled, which is never refused: it passes, and no page has more than 868 bytes.
 fn page_mean(given: &[u8], s: Session) -> Printed
@@ -48,11 +48,11 @@ fn board(given: &[u8]) -> Printed
     }
 }
 
-fn main() {
+fn main(rt: HostRuntime) -> io::Result<()> {
     let mut given = [0u8; ROOM];
-    let n = io::read_full(STDIN_FILENO, &mut given);
+    let n = read_full(&mut rt.stdin(), &mut given);
     let printed = board(&given[..n]);
     let bytes = printed.bytes;
     let end = printed.end;
-    io::write_all(STDOUT_FILENO, &bytes[..end]);
+    rt.write_all(&bytes[..end])
 }

@@ -1,91 +1,93 @@
 // The answers on standard output, one line each. Each function answers whether all of its line was written.
 ghost use Rattle.std.specs.Prelude.{◌≡◌, ◌*◌, ◌≤◌, ◌<◌, length, take};
-ghost use Rattle.io.specs.Counts.{IsPrefixLen};
-ghost use Rattle.io.specs.Digits.{hex_digit_ascii};
-ghost use Rattle.calls.specs.Hex.{hex_of};
+ghost use Rattle.calls.specs.Counts.{IsPrefixLen};
+ghost use Rattle.calls.specs.Hex.{hex_digit_ascii, hex_of};
 
 use chain::judge::size;
-use libc::STDOUT_FILENO;
 use session::answers::{
     JudgeAnswer, OpenAnswer, StrikeAnswer, SweepAnswer, UltimateAnswer, WriteAnswer,
 };
 
-pub fn print(text: &[u8]) -> bool {
-    io::write_all(STDOUT_FILENO, text)
+pub fn print(rt: &HostRuntime, text: &[u8]) -> bool {
+    rt.write_all(text).is_ok()
+}
+
+pub fn print_decimal(rt: &HostRuntime, n: u64) -> bool {
+    rt.print(n).is_ok()
 }
 
 // A name and a number.
-pub fn print_count(name: &[u8], n: u64) -> bool {
-    print(name) && io::print_decimal(STDOUT_FILENO, n) && print(b"\n")
+pub fn print_count(rt: &HostRuntime, name: &[u8], n: u64) -> bool {
+    print(rt, name) && print_decimal(rt, n) && print(rt, b"\n")
 }
 
 // A space and a number.
-pub fn print_signed(z: i64) -> bool {
+pub fn print_signed(rt: &HostRuntime, z: i64) -> bool {
     if z < 0 {
-        return print(b" -") && io::print_decimal(STDOUT_FILENO, size(z));
+        return print(rt, b" -") && print_decimal(rt, size(z));
     }
-    print(b" ") && io::print_decimal(STDOUT_FILENO, size(z))
+    print(rt, b" ") && print_decimal(rt, size(z))
 }
 
-pub fn print_refusal(number: u64, place: usize) -> bool {
-    print(b"refused ")
-        && io::print_decimal(STDOUT_FILENO, number)
-        && print_count(b" at ", place as u64)
+pub fn print_refusal(rt: &HostRuntime, number: u64, place: usize) -> bool {
+    print(rt, b"refused ") && print_decimal(rt, number) && print_count(rt, b" at ", place as u64)
 }
 
-pub fn print_open(answer: OpenAnswer) -> bool {
+pub fn print_open(rt: &HostRuntime, answer: OpenAnswer) -> bool {
     match answer {
-        OpenAnswer::Opened => print(b"opened\n"),
-        OpenAnswer::Refused(number, place) => print_refusal(number, place),
+        OpenAnswer::Opened => print(rt, b"opened\n"),
+        OpenAnswer::Refused(number, place) => print_refusal(rt, number, place),
     }
 }
 
-pub fn print_judge(answer: JudgeAnswer) -> bool {
+pub fn print_judge(rt: &HostRuntime, answer: JudgeAnswer) -> bool {
     match answer {
-        JudgeAnswer::Passed => print(b"passed\n"),
-        JudgeAnswer::Fails(part) => print_count(b"fails ", part as u64),
-        JudgeAnswer::Refused(number, place) => print_refusal(number, place),
+        JudgeAnswer::Passed => print(rt, b"passed\n"),
+        JudgeAnswer::Fails(part) => print_count(rt, b"fails ", part as u64),
+        JudgeAnswer::Refused(number, place) => print_refusal(rt, number, place),
     }
 }
 
-pub fn print_sweep(answer: SweepAnswer) -> bool {
+pub fn print_sweep(rt: &HostRuntime, answer: SweepAnswer) -> bool {
     match answer {
-        SweepAnswer::Settled(total) => print_count(b"settled ", total),
-        SweepAnswer::Going(total) => print_count(b"going ", total),
-        SweepAnswer::Refused(number, place) => print_refusal(number, place),
+        SweepAnswer::Settled(total) => print_count(rt, b"settled ", total),
+        SweepAnswer::Going(total) => print_count(rt, b"going ", total),
+        SweepAnswer::Refused(number, place) => print_refusal(rt, number, place),
     }
 }
 
 // What is said of a call that wrote is the caller's.
-pub fn print_write(said: &[u8], answer: WriteAnswer) -> bool {
+pub fn print_write(rt: &HostRuntime, said: &[u8], answer: WriteAnswer) -> bool {
     match answer {
-        WriteAnswer::Written => print(said),
-        WriteAnswer::Refused(number, place) => print_refusal(number, place),
+        WriteAnswer::Written => print(rt, said),
+        WriteAnswer::Refused(number, place) => print_refusal(rt, number, place),
     }
 }
 
-pub fn print_ultimate(answer: UltimateAnswer) -> bool {
+pub fn print_ultimate(rt: &HostRuntime, answer: UltimateAnswer) -> bool {
     match answer {
         UltimateAnswer::Central(found) => {
-            print(b"ultimate") && print_signed(found.floor) && print_count(b" ", found.remainder)
+            print(rt, b"ultimate")
+                && print_signed(rt, found.floor)
+                && print_count(rt, b" ", found.remainder)
         }
-        UltimateAnswer::Refused(number, place) => print_refusal(number, place),
+        UltimateAnswer::Refused(number, place) => print_refusal(rt, number, place),
     }
 }
 
-pub fn print_strike(answer: StrikeAnswer) -> bool {
+pub fn print_strike(rt: &HostRuntime, answer: StrikeAnswer) -> bool {
     match answer {
-        StrikeAnswer::Struck => print(b"struck\n"),
-        StrikeAnswer::Refused(number, place) => print_refusal(number, place),
+        StrikeAnswer::Struck => print(rt, b"struck\n"),
+        StrikeAnswer::Refused(number, place) => print_refusal(rt, number, place),
     }
 }
 
-pub fn print_close() -> bool {
-    print(b"closed\n")
+pub fn print_close(rt: &HostRuntime) -> bool {
+    print(rt, b"closed\n")
 }
 
-pub fn print_script() -> bool {
-    print(b"script\n")
+pub fn print_script(rt: &HostRuntime) -> bool {
+    print(rt, b"script\n")
 }
 
 fn digit(d: u8) -> u8
@@ -117,8 +119,8 @@ fn hex(bytes: &[u8], text: &mut [u8]) -> usize
 }
 
 // A name and bytes.
-pub fn print_hex(name: &[u8], bytes: &[u8]) -> bool {
+pub fn print_hex(rt: &HostRuntime, name: &[u8], bytes: &[u8]) -> bool {
     let mut text = [0u8; 8192];
     let n = hex(bytes, &mut text);
-    print(name) && print(&text[..n]) && print(b"\n")
+    print(rt, name) && print(rt, &text[..n]) && print(rt, b"\n")
 }

@@ -1,9 +1,9 @@
 // The arguments of a call, from standard input: never more bytes than the call has, so that it can be answered before the next.
 ghost use Rattle.std.specs.Prelude.{◌≡◌};
-ghost use Rattle.io.specs.Counts.{IsPrefixLen};
+ghost use Rattle.calls.specs.Counts.{IsPrefixLen};
 
 use fields::{Field, unsigned_4};
-use libc::STDIN_FILENO;
+use std::io::Read;
 
 // How many bytes of a buffer are meant; 0 where the script is wrong.
 #[derive(Drop)]
@@ -21,17 +21,24 @@ fn wrong() -> Length
     }
 }
 
-pub fn read_number() -> Field {
+// Fills the buffer, and answers whether the input had so many bytes.
+pub fn read_full(rt: &HostRuntime, buffer: &mut [u8]) -> bool {
+    rt.stdin().read_exact(buffer).is_ok()
+}
+
+pub fn read_number(rt: &HostRuntime) -> Field {
     let mut four = [0u8; 4];
-    let n = io::read_full(STDIN_FILENO, &mut four);
-    unsigned_4(&four[..n], 0)
+    if !read_full(rt, &mut four) {
+        return Field::End;
+    }
+    unsigned_4(&four, 0)
 }
 
 // A number that is at most the length of the buffer.
-pub fn read_length(buffer: &[u8]) -> Length
+pub fn read_length(rt: &HostRuntime, buffer: &[u8]) -> Length
     ensures { IsPrefixLen result.bytes buffer.now }
 {
-    let Field::Value(n) = read_number() else {
+    let Field::Value(n) = read_number(rt) else {
         return wrong();
     };
     if (buffer.len() as u64) < n {
@@ -44,15 +51,15 @@ pub fn read_length(buffer: &[u8]) -> Length
 }
 
 // A byte string, to the front of the buffer: its length, and that many bytes.
-pub fn read_string(buffer: &mut [u8]) -> Length
+pub fn read_string(rt: &HostRuntime, buffer: &mut [u8]) -> Length
     ensures { IsPrefixLen result.bytes buffer.new }
 {
-    let length = read_length(buffer);
+    let length = read_length(rt, buffer);
     if !length.right {
         return length;
     }
     let n = length.bytes;
-    if io::read_full(STDIN_FILENO, &mut buffer[..n]) < n {
+    if !read_full(rt, &mut buffer[..n]) {
         return wrong();
     }
     length

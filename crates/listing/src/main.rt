@@ -13,11 +13,11 @@ ghost use Rattle.listing.specs.Listing.{OfParts, record_lines};
 
 use fields::{SignedField, signed_4};
 use layout::places::last_year;
-use libc::{STDIN_FILENO, STDOUT_FILENO};
 use session::Session;
 use session::answers::{SweepAnswer, WriteAnswer};
 use session::calls::read;
-use settling::{Printed, ROOM, refused, settle, spent};
+use settling::{Printed, ROOM, read_full, refused, settle, spent};
+use std::io;
 use text::parts::{index_of, name_of};
 use text::put::{put, put_count, put_decimal, put_signed};
 
@@ -90,11 +90,11 @@ fn list(given: &[u8]) -> Printed
     }
 }
 
-fn main() {
+fn main(rt: HostRuntime) -> io::Result<()> {
     let mut given = [0u8; ROOM];
-    let n = io::read_full(STDIN_FILENO, &mut given);
+    let n = read_full(&mut rt.stdin(), &mut given);
     let printed = list(&given[..n]);
     let bytes = printed.bytes;
     let end = printed.end;
-    io::write_all(STDOUT_FILENO, &bytes[..end]);
+    rt.write_all(&bytes[..end])
 }

@@ -5,7 +5,7 @@ use Rattle.definitions.specs.Layout.{Bytes, last_year}
 use Rattle.definitions.specs.Matrix.{figures_from, figures_of}
 use Rattle.definitions.specs.Strikes.{StruckFile, figures_left}
 use Rattle.definitions.specs.Programs.{Show, program_text, refusal_line, spent_line}
-use Rattle.definitions.specs.Machine.{opened, refused, open_file, State, empty, holds, map_state, open_call, sweep_call, write_call, outcome, the_file}
+use Rattle.definitions.specs.Machine.{opened, open_file, State, empty, holds, map_state, open_call, sweep_call, write_call, outcome, the_file}
 use Rattle.definitions.specs.Kept.{kept_of, in_session}
 use Rattle.laws.specs.MachineLaws.{map_outcome}
 use Rattle.laws.proofs.MachineLaws.{sweep_alike, outcome_alike, session_alike}

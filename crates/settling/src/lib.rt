@@ -2,12 +2,14 @@
 #![tactic(auto)]
 
 ghost use Rattle.definitions.specs.Programs.{refusal_line, spent_line};
+ghost use Rattle.text.specs.Added.{OnPage};
 ghost use Rattle.settling.specs.Printed.{Prints};
 ghost use Rattle.settling.specs.Settles.{Settles};
 
 use session::answers::{OpenAnswer, SweepAnswer, Sweeping};
 use session::calls::{open, sweep};
 use session::state::empty;
+use std::io::Read;
 use text::put::{put_count, put_refusal};
 
 // One byte more than the longest file has, so that a longer input shows.
@@ -18,6 +20,23 @@ pub const ROOM: usize = 2807;
 pub struct Printed {
     pub bytes: [u8; 4096],
     pub end: usize,
+}
+
+// Reads until the buffer is full, the input ends or a read fails: how many bytes it put at the front of the buffer.
+pub fn read_full<R: Read>(input: &mut R, buffer: &mut [u8]) -> usize
+    ensures { OnPage result buffer.new }
+{
+    let mut done = 0usize;
+    while done < buffer.len() {
+        let Ok(n) = input.read(&mut buffer[done..]) else {
+            break;
+        };
+        if n == 0 {
+            break;
+        }
+        done += n;
+    }
+    done
 }
 
 // Opens the bytes given and sweeps with n = 4,096. An input that cannot be opened is told as a refused sweep, so that a program has

@@ -1,0 +1,46 @@
+-- The page that the call left at the front, and where it ends.
+use Rattle.std.proofs.Common.{◌≤◌, ◌≡◌, sym, ap, ◌∙◌, arith, length, replicate}
+use Rattle.definitions.specs.Layout.{Bytes, last_year}
+use Rattle.definitions.specs.Refusals.{year_limit}
+use Rattle.definitions.specs.Matrix.{figures_from, figures_of}
+use Rattle.definitions.specs.Page.{page_length}
+use Rattle.definitions.specs.Strikes.{unstruck}
+use Rattle.definitions.specs.Machine.{page_in}
+use Rattle.definitions.specs.Programs.{paged}
+use Rattle.laws.proofs.Accepted.{accepted_file}
+use Rattle.laws.proofs.Pages.{file_page_fits}
+use Rattle.laws.proofs.StruckFiles.{admitted}
+use Rattle.settling.specs.Printed.{prints_front, prints_as}
+use Rattle.settling.specs.Settles.{WritesWhole, writes_whole}
+use Rattle.board_page.proofs.page_mean.Goals as goal
+use Rattle.board_page.proofs.page_mean.Goals.{After-page-answer}
+
+-- the page is written whole
+module _ (c : After-page-answer) where
+  abbrev bytes : Bytes
+  bytes = c.args.given.now
+
+  years : last_year bytes ≤ year_limit
+  years = (accepted_file bytes c.requires.1.file).years.to
+
+  abbrev text : Bytes
+  text = page_in (figures_of bytes) c.requires.1.mean
+
+  text_length : length text ≡ page_length (last_year bytes)
+  unfolding figures_from
+  text_length = (file_page_fits (unstruck bytes) (admitted bytes c.requires.1.file) c.requires.1.mean c.requires.1.inside).bytes
+
+  page_whole : WritesWhole page_length page_in bytes c.requires.1.mean (replicate 4096 0) c.page-answer.result c.page-answer.new.buffer
+  page_whole = writes_whole c.requires.1 c.page-answer.ensures (omega (arith, years))
+
+pub returns-in-Refused : goal.returns-in-Refused
+returns-in-Refused c = absurd ((page_whole (goal.at.returns-in-Refused c).After-page-answer).taken _ _ c.in-Refused.is)
+
+pub page_length-end-requires : goal.page_length-end-requires
+page_length-end-requires c = omega (arith, c.last_year-last.ensures, years (goal.at.page_length-end-requires c).After-page-answer)
+
+pub returns : goal.returns
+returns c =
+    let after_page_answer = (goal.at.returns c).After-page-answer in
+    let ends = c.page_length-end.ensures ∙ ap page_length c.last_year-last.ensures ∙ sym (text_length after_page_answer) in
+    prints_as (prints_front (text after_page_answer) _ (page_whole after_page_answer).buffer ends) (c.requires.1.text paged)

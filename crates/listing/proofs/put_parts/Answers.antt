@@ -1,0 +1,65 @@
+-- The lines of a record's parts. The invariant: the page is as long as it was, and the lines of the parts passed are added.
+use Rattle.std.proofs.Common.{◌≡◌, refl, ap, ◌∙◌, arith}
+use borrow.Author.Rules.{rules}
+use mir.Syntax.{w64}
+use mir.Val.{SFits}
+use mir.Facts.{to_z-of_z}
+use Rattle.definitions.specs.Layout.{parts, part_at, signed}
+use Rattle.definitions.specs.Matrix.{part_by_index}
+use Rattle.definitions.specs.Text.{lines}
+use Rattle.definitions.specs.Programs.{part_line}
+use Rattle.laws.proofs.Lines.{lines_next}
+use Rattle.fields.specs.Fields.{signed_read, signed_outside}
+use Rattle.text.specs.Added.{both, in_words, nothing}
+use Rattle.listing.proofs.put_parts.Goals as goal
+
+pub overflow_mul-count : goal.overflow_mul-count
+overflow_mul-count c = record { fits = omega (arith, c.requires.years) }
+
+pub overflow_add-count : goal.overflow_add-count
+overflow_add-count c = record { fits = omega (arith, c.requires.years) }
+
+pub loop-k-init : goal.loop-k-init
+unfolding lines
+loop-k-init c = (refl, omega arith, nothing _ _ c.requires.on)
+
+pub overflow_mul-k : goal.overflow_mul-k
+overflow_mul-k c = record { fits = omega (arith, c.requires.years) }
+
+pub overflow_add-k : goal.overflow_add-k
+overflow_add-k c = record { fits = omega (arith, c.requires.years) }
+
+pub returns-in_default : goal.returns-in_default
+returns-in_default c =
+    let k = c.loop-k.k in
+    let outside = signed_outside (part_at k) c.args.«record».now c.signed_4.ensures c.in_default.is in
+    absurd (omega (arith, c.requires.years, outside))
+
+pub put_part-end-requires : goal.put_part-end-requires
+put_part-end-requires c =
+    let l = c.loop-k in
+    record { on = omega (arith, l.invariant.0, l.invariant.2.counted.0); years = c.requires.years }
+
+pub overflow_add-k-in-loop-k : goal.overflow_add-k-in-loop-k
+overflow_add-k-in-loop-k c = record { fits = omega (arith, c.requires.years) }
+
+pub loop-k-preserved : goal.loop-k-preserved
+loop-k-preserved c =
+    let a = c.args in
+    let l = c.loop-k in
+    let line = c.put_part-end in
+    let field = signed_read (part_at l.k) a.«record».now c.signed_4.ensures c.in-Value.is in
+    let fits : SFits w64 c.in-Value.mean = search rules in
+    let mean = to_z-of_z {w = w64} {z = c.in-Value.mean} fits ∙ field in (
+      line.auto.page ∙ l.invariant.0,
+      omega arith,
+      in_words (lines_next (λ i. part_line (part_by_index a.last i) (signed (part_at i) a.«record».now)) l.k)
+          (both l.invariant.2 l.invariant.0 (in_words (ap (part_line (part_by_index a.last l.k)) mean) line.ensures)),
+    )
+
+pub returns : goal.returns
+returns c =
+    let a = c.args in
+    let l = c.loop-k in
+    let all : l.k ≡ parts a.last = omega (arith, l.invariant.1, c.loop-k-test.false) in
+    in_words (ap (lines (λ i. part_line (part_by_index a.last i) (signed (part_at i) a.«record».now))) all) l.invariant.2

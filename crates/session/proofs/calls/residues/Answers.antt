@@ -1,0 +1,7 @@
+-- `residues` meets its contract: what it lends is what the session keeps, variances included.
+use Rattle.session.proofs.calls.residues.Goals as goal
+
+pub returns : goal.returns
+returns c =
+    let kept = c.args.s.observations in
+    c.residues_lent.ensures kept.variances
