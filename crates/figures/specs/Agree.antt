@@ -16,7 +16,8 @@ use Rattle.laws.proofs.Columns.{own_of_phi, own_of_psi, firsts_of_phi, firsts_of
 use Rattle.laws.proofs.Marks.{steps_phi, steps_psi}
 use Rattle.laws.specs.Ranks.{rank_of, sign_of}
 use Rattle.laws.proofs.Ranks.{part_by_index_phi, part_by_index_psi, by_part, rank_below, matrix_by_ranks}
-use Rattle.laws.proofs.PrecisionMatrix.{firsts_of, ratios_by_development, target_by_rank}
+use Rattle.laws.proofs.PrecisionMatrix.{ratios_by_development, target_by_rank}
+use Rattle.laws.specs.PrecisionMatrix.{firsts_of}
 use Rattle.observations.specs.Arrays.{at, mean_at, prior_at, mark_at, unmarked}
 use Rattle.observations.specs.HoldsChain.{HoldsChain}
 use Rattle.observations.specs.Strikes.{LeftIn}

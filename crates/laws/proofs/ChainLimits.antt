@@ -10,7 +10,7 @@ use Rattle.definitions.specs.Refusals.{closeness_limit, part_limit}
 use Rattle.definitions.specs.Loss.{Vector}
 use Rattle.definitions.specs.Observations.{Chain}
 use Rattle.definitions.specs.Matrix.{Φ, Ψ, own, matrix, ratios_of_last, right_hand_side, residue_times}
-use Rattle.laws.proofs.PrecisionMatrix.{firsts_of}
+use Rattle.laws.specs.PrecisionMatrix.{firsts_of}
 use Rattle.laws.proofs.Sizes.{Limits, entry_limit_lem, ratios_limit, target_limit, residue_limit_lem}
 use Rattle.laws.specs.Chains.{weight_limit, share_limit, observed_limit, Bounded}
 use Rattle.laws.proofs.Chains.{by_own}

@@ -10,7 +10,7 @@ use Rattle.definitions.specs.Layout.{Bytes, last_year, psi_index, prior_variance
 use Rattle.definitions.specs.Weight.{weight}
 use Rattle.definitions.specs.Observations.{Chain, chain_of, σ², τ², paid_step, incurred_step}
 use Rattle.definitions.specs.Matrix.{Φ, Ψ, own_of, own, target_of, right_hand_side, ratios_of_last}
-use Rattle.laws.proofs.PrecisionMatrix.{firsts_of}
+use Rattle.laws.specs.PrecisionMatrix.{firsts_of}
 use Rattle.laws.proofs.Ranks.{part_by_index_phi, part_by_index_psi}
 use Rattle.laws.specs.Columns.{OwnOfPhi}
 use Rattle.laws.specs.StruckSteps.{left_of}

@@ -15,7 +15,8 @@ use Rattle.laws.proofs.StruckFiles.{struck_chain}
 use Rattle.laws.proofs.FormGuarantee as Form
 use Rattle.laws.proofs.Judged.{SmallResidues, small_of_passes, passes_of_small}
 use Rattle.laws.proofs.LossForm.{loss_is_form}
-use Rattle.laws.proofs.PrecisionMatrix.{loss_form, residue_is_form}
+use Rattle.laws.proofs.PrecisionMatrix.{residue_is_form}
+use Rattle.laws.specs.PrecisionMatrix.{loss_form}
 use Rattle.laws.proofs.Quadratic.{form_residue}
 use Rattle.laws.proofs.Rounding.{rounding_passes}
 

@@ -11,20 +11,17 @@ use Rattle.integers.specs.Sum.{sum, total, sum_cong, sum-+, sum_neg, sum_scale, 
 use Rattle.integers.specs.SumOrder.{sum_mono, sum_nonneg, sum_positive}
 use Rattle.integers.specs.Total.{pos_total}
 use Rattle.definitions.specs.Loss.{Vector}
+use Rattle.laws.specs.FormGuarantee.{form_slack}
 use Rattle.laws.specs.Quadratic.{Form}
 use Rattle.laws.proofs.Quadratic.{combined, form_loss, form_residue, apart, own_squares, combined_squares, along, expansion, zero_residues_along}
 
 module _ (q : Form) (e : ℕ) (μ : Vector) where
-  -- m²·e²·ΣD
-  abbrev pub form_slack : ℕ → ℤ
-  form_slack m = pos (m * m * (e * e * total q.parts q.own))
-
   combined_nonneg : (w : Vector) → pos 0 ≤ℤ combined_squares q w
   combined_nonneg w = sum_nonneg q.combinations (λ d _. *ℤ_nonneg (pos_nonneg (q.weight d)) (square_nonneg (combined q w d)))
 
   -- −2m·(residues along w) ≤ ΣD·w² + m²e²ΣD
   pub along_bounded : ((k : ℕ) → k < q.parts → nat_abs (form_residue q (pos 1) μ k) ≤ e * q.own k) → (m : ℕ) (w : Vector)
-      → neg_ℤ (pos 2 *ℤ pos m *ℤ along q μ w) ≤ℤ (own_squares q w +ℤ form_slack m)
+      → neg_ℤ (pos 2 *ℤ pos m *ℤ along q μ w) ≤ℤ (own_squares q w +ℤ form_slack q e m)
   along_bounded small m w = ≤ℤ_trans (≤ℤ_of-≡ into) (≤ℤ_trans (sum_mono q.parts bound) (≤ℤ_of-≡ out))
     where
       n : ℕ
@@ -46,20 +43,20 @@ module _ (q : Form) (e : ℕ) (μ : Vector) where
       into : neg_ℤ (pos 2 *ℤ pos m *ℤ along q μ w) ≡ sum n (λ k. neg_ℤ (pos 2 *ℤ pos m *ℤ (r k *ℤ w k)))
       into = sym (sum_neg n (λ k. pos 2 *ℤ pos m *ℤ (r k *ℤ w k)) ∙ ap neg_ℤ (sum_scale n (pos 2 *ℤ pos m) (λ k. r k *ℤ w k)))
 
-      slack : sum n (λ k. D k *ℤ t) ≡ form_slack m
+      slack : sum n (λ k. D k *ℤ t) ≡ form_slack q e m
       slack =
           sum_scale_right n t D
           ∙ ap (λ z. z *ℤ t) (sym (pos_total n q.own))
           ∙ ring (pos (total n q.own) ∷ pos m ∷ pos e ∷ []) (λ t m e. t ⊠ (m ⊠ m ⊠ (e ⊠ e)) ≐ m ⊠ m ⊠ (e ⊠ e ⊠ t)) tt
 
-      out : sum n (λ k. D k *ℤ (w k *ℤ w k +ℤ t)) ≡ own_squares q w +ℤ form_slack m
+      out : sum n (λ k. D k *ℤ (w k *ℤ w k +ℤ t)) ≡ own_squares q w +ℤ form_slack q e m
       out =
           sum_cong n (λ k _. ring (D k ∷ (w k *ℤ w k) ∷ t ∷ []) (λ d s t. d ⊠ (s ⊞ t) ≐ d ⊠ s ⊞ d ⊠ t) tt)
           ∙ sum-+ n (λ k. D k *ℤ (w k *ℤ w k)) (λ k. D k *ℤ t)
           ∙ ap (λ z. own_squares q w +ℤ z) slack
 
   module _ (small : (k : ℕ) → k < q.parts → nat_abs (form_residue q (pos 1) μ k) ≤ e * q.own k) where
-    pub nearly_least : (m : ℕ) (u : Vector) → (pos (m * m) *ℤ form_loss q (pos 1) μ) ≤ℤ (form_loss q (pos m) u +ℤ form_slack m)
+    pub nearly_least : (m : ℕ) (u : Vector) → (pos (m * m) *ℤ form_loss q (pos 1) μ) ≤ℤ (form_loss q (pos m) u +ℤ form_slack q e m)
     nearly_least m u =
         let w : Vector = apart q (pos m) u μ in
         let bound = along_bounded small m w in
@@ -67,7 +64,7 @@ module _ (q : Form) (e : ℕ) (μ : Vector) where
         rw (expansion q (pos m) u μ) (simp linear (omega (zarith, simp linear at bound, simp linear at others)))
 
     pub near : (m : ℕ) (u : Vector) → ((k : ℕ) → k < q.parts → form_residue q (pos m) u k ≡ pos 0)
-        → own_squares q (apart q (pos m) u μ) ≤ℤ form_slack m
+        → own_squares q (apart q (pos m) u μ) ≤ℤ form_slack q e m
     near m u none =
         let w : Vector = apart q (pos m) u μ in
         let bound = along_bounded small m w in

@@ -17,7 +17,7 @@ use Rattle.definitions.specs.Matrix.{Part, Φ, Ψ, own_of, own}
 use Rattle.laws.proofs.Quadratic.{combined, own_term, combined_term, form_loss}
 use Rattle.laws.specs.Ranks.{rank_of, sign_of}
 use Rattle.laws.proofs.Ranks.{part_by_index_phi, part_by_index_psi}
-use Rattle.laws.proofs.PrecisionMatrix.{loss_form, firsts_of, seconds_of}
+use Rattle.laws.specs.PrecisionMatrix.{loss_form, firsts_of, seconds_of}
 
 -- n observations o with their weights w, and a prior of weight s: their sums of squares, as a quadratic of v
 module _ (w : ℕ → ℕ) (n s : ℕ) (o : ℕ → ℤ) (prior m v : ℤ) where

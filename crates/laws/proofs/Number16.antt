@@ -59,17 +59,10 @@ module _ (f : Bytes) where
       not_zero (pos (suc n)) some = ap not (ne_eqb (suc n) 0 (λ none. omega arith))
       not_zero (negsuc n) some = ap not (ne_eqb (suc n) 0 (λ none. omega arith))
 
-  same_check : one_to_ten then check16 ≡ one_to_ten
-  same_check = by_check one_to_ten refl
-    where
-      by_check : (c : Check) → one_to_ten ≡ c → c then check16 ≡ c
-      by_check clear e = no_zero_clear (λ k below none. <ℤ_irrefl (subst (λ z. pos 0 <ℤ z) none (positive e k below)))
-      by_check (refuses number place) e = refl
-
 -- 16 did refuse: of bytes that are no file, for one
 pub refuses_no_bytes : check16 [] ≡ refuses 16 0
 unfolding unsigned big_endian weight sum total part_by_index own matrix
-refuses_no_bytes = zero_refused [] 0 (omega arith) refl
+refuses_no_bytes = fields_bad _ 16 0 0 (2 * last_year [] + 1) 0 zero-le (omega arith) refl
 
 -- for whatever is kept of a file: the file itself, as the specification's machine does, or arrays, as a session does
 module _ (X : Type 0) (K : Keeping X) where
@@ -81,7 +74,14 @@ module _ (X : Type 0) (K : Keeping X) where
   -- answer, state and buffer are those of open, which does not have it
   pub alike_without_16 : (st : State X) (f : Bytes) → open_with16 st f ≡ open_call K st f
   unfolding open_call file_check
-  alike_without_16 empty f = ap (λ check. open_unless K check f) (same_check f)
+  alike_without_16 empty f = ap (λ check. open_unless K check f) same_check
+    where
+      same_check : one_to_ten f then check16 f ≡ one_to_ten f
+      same_check = by_check (one_to_ten f) refl
+        where
+          by_check : (c : Check) → one_to_ten f ≡ c → c then check16 f ≡ c
+          by_check clear e = no_zero_clear f (λ k below none. <ℤ_irrefl (subst (λ z. pos 0 <ℤ z) none (positive f e k below)))
+          by_check (refuses number place) e = refl
   alike_without_16 (holds x μ total) f = refl
 
   pub never_16 : (st : State X) (call : Call) (place : ℕ) → (outcome K st call).answer ≢ refused 16 place

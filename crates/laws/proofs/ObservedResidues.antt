@@ -17,15 +17,19 @@ use Rattle.laws.specs.Chains.{Bounded}
 use Rattle.laws.proofs.ChainLimits.{residue_fits}
 use Rattle.laws.proofs.Judged.{residue_of_chain}
 use Rattle.laws.proofs.NumberBytes.{bytes_read, number_bytes_length, number_bytes_at}
+use Rattle.laws.specs.ObservedResidues.{InEightBytes}
 use Rattle.laws.specs.SameChains.{SameChain}
 use Rattle.laws.proofs.SameChains.{with_years, IsPart, is_part}
 use Rattle.laws.proofs.Tables.{tab_at, tab_cong}
 use Rattle.laws.proofs.Theorem34.{residue_is_observed}
 
 module _ (c : Chain) (u : Vector) where
+  by_matrix : (e k : ℕ) → k < parts c.last → residue (figures_from c e) u k ≡ observed_times c 1 u k
+  by_matrix e k below = residue_of_chain c e u k below ∙ residue_is_observed c 1 u k below
+
   -- those that judge tests, whatever the closeness
   pub observed_is_residue : (e k : ℕ) → k < parts c.last → observed_times c 1 u k ≡ residue (figures_from c e) u k
-  observed_is_residue e k below = sym (residue_of_chain c e u k below ∙ residue_is_observed c 1 u k below)
+  observed_is_residue e k below = sym (by_matrix e k below)
 
   pub observed_fits : Bounded c → ((l : ℕ) → l < parts c.last → nat_abs (u l) ≤ part_limit) → (k : ℕ) → k < parts c.last
       → nat_abs (observed_times c 1 u k) ≤ 19732 * 2 ^ 47
@@ -38,19 +42,19 @@ module _ (c : Chain) (u : Vector) where
 
 -- ---- read back
 
-eight_small : (z : ℤ) → nat_abs z < 2 ^ 63 → complement 8 z < 256 ^ 8
+eight_small : (z : ℤ) → InEightBytes z → complement 8 z < 256 ^ 8
 unfolding complement
 eight_small (pos n) h = omega arith
 eight_small (negsuc n) h = omega arith
 
-eight_read : (z : ℤ) → nat_abs z < 2 ^ 63
+eight_read : (z : ℤ) → InEightBytes z
     → cond (ltb (complement 8 z) (2 ^ 63)) (pos (complement 8 z)) (pos (complement 8 z) -ℤ pos (2 ^ 64)) ≡ z
 unfolding complement
 eight_read (pos n) h = rw (lt-ltb n (2 ^ 63) (omega arith))
 eight_read (negsuc n) h = rw (le-ltb (2 ^ 64 - suc n) (2 ^ 63) (omega arith)) (simp linear (omega arith))
 
 -- numbers that 63 bits hold, whatever stands behind them
-numbers_read : (v : List ℤ) (rest : Bytes) (n k : ℕ) → k < n → nat_abs (part v k) < 2 ^ 63
+numbers_read : (v : List ℤ) (rest : Bytes) (n k : ℕ) → k < n → InEightBytes (part v k)
     → residue_at (number_bytes 8 0 n v ++ rest) k ≡ part v k
 unfolding residue_at unsigned
 numbers_read v rest n k below small =
@@ -67,8 +71,8 @@ module _ (c : Chain) (u : Vector) (h : Bounded c) (small : (l : ℕ) → l < par
   unfolding residue_bytes
   residues_read rest e k below =
       let is : part (observed_residues c u) k ≡ observed_times c 1 u k = tab_at (parts c.last) (observed_times c 1 u) k (pos 0) below in
-      let fits : nat_abs (part (observed_residues c u) k) < 2 ^ 63 = rw is (omega (arith, observed_fits c u h small k below)) in
-      numbers_read (observed_residues c u) rest (parts c.last) k below fits ∙ is ∙ observed_is_residue c u e k below
+      let fits : InEightBytes (part (observed_residues c u) k) = rw is (omega (arith, observed_fits c u h small k below)) in
+      numbers_read (observed_residues c u) rest (parts c.last) k below fits ∙ is ∙ sym (by_matrix c u e k below)
 
 -- ---- only the triangles and the parts count
 

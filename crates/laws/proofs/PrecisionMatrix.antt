@@ -12,7 +12,7 @@ use Rattle.definitions.specs.Layout.{parts}
 use Rattle.definitions.specs.Loss.{Vector}
 use Rattle.definitions.specs.Observations.{Chain}
 use Rattle.definitions.specs.Matrix.{Part, Φ, Ψ, part_by_index, own, matrix, shared_by, ratios_of_last, target_of, right_hand_side, residue_times}
-use Rattle.laws.specs.Quadratic.{Form}
+use Rattle.laws.specs.PrecisionMatrix.{firsts_of, loss_form}
 use Rattle.laws.proofs.Quadratic.{form_matrix, form_target, form_residue, residue_by_observation}
 use Rattle.laws.specs.Ranks.{rank_of, sign_of}
 use Rattle.laws.proofs.Ranks.{rank_below, matrix_by_ranks}
@@ -20,28 +20,6 @@ use Rattle.laws.proofs.Ranks.{rank_below, matrix_by_ranks}
 module _ (c : Chain) where
   abbrev J : ℕ
   J = c.last
-
-  abbrev pub firsts_of : Part → ℤ
-  firsts_of (Φ j) = pos (c.s j) *ℤ c.prior_Φ j +ℤ sum (J - j + 1) (λ i. pos (c.p i j) *ℤ c.x i j)
-  firsts_of (Ψ j) = pos (c.t j) *ℤ c.prior_Ψ j +ℤ sum (J - j) (λ i. pos (c.q i j) *ℤ c.z i j)
-
-  abbrev pub seconds_of : Part → ℤ
-  seconds_of (Φ j) =
-      pos (c.s j) *ℤ (c.prior_Φ j *ℤ c.prior_Φ j) +ℤ sum (J - j + 1) (λ i. pos (c.p i j) *ℤ (c.x i j *ℤ c.x i j))
-  seconds_of (Ψ j) = pos (c.t j) *ℤ (c.prior_Ψ j *ℤ c.prior_Ψ j) +ℤ sum (J - j) (λ i. pos (c.q i j) *ℤ (c.z i j *ℤ c.z i j))
-
-  -- the combination of development year d is the ratio of accident year J − d
-  abbrev pub loss_form : Form
-  loss_form = record {
-    parts = parts J;
-    own = own c;
-    firsts = λ k. firsts_of (part_by_index J k);
-    seconds = λ k. seconds_of (part_by_index J k);
-    combinations = J;
-    weight = c.g;
-    factor = λ d k. only (ltb d (rank_of (part_by_index J k))) (sign_of (part_by_index J k));
-    observed = λ d. c.y (J - d);
-  }
 
   -- ---- matrix and right-hand side
 
@@ -75,7 +53,7 @@ module _ (c : Chain) where
       picked g false true false f l r = ring (g ∷ t ∷ []) (λ g t. g ⊠ (num 0 ⊠ t) ≐ num 0) tt
       picked g false false false f l r = ring (g ∷ []) (λ g. g ⊠ (num 0 ⊠ num 0) ≐ num 0) tt
 
-  pub matrix_is_form : (k l : ℕ) → k < parts J → l < parts J → matrix c k l ≡ form_matrix loss_form k l
+  pub matrix_is_form : (k l : ℕ) → k < parts J → l < parts J → matrix c k l ≡ form_matrix (loss_form c) k l
   matrix_is_form k l k-below l-below =
       let a : Part = part_by_index J k in
       let b : Part = part_by_index J l in
@@ -108,23 +86,23 @@ module _ (c : Chain) where
       picked g y true = ring (g ∷ s ∷ y ∷ []) (λ g s y. g ⊠ (s ⊠ y) ≐ s ⊠ (g ⊠ y)) tt
       picked g y false = ring (g ∷ y ∷ []) (λ g y. g ⊠ (num 0 ⊠ y) ≐ num 0) tt
 
-  pub target_by_rank : (a : Part) → target_of c a ≡ firsts_of a +ℤ sign_of a *ℤ ratios_of_last c (rank_of a)
-  target_by_rank (Φ j) = ap (λ z. firsts_of (Φ j) +ℤ z) (sym (*ℤ_idl (ratios_of_last c j)))
-  target_by_rank (Ψ j) = ring (firsts_of (Ψ j) ∷ ratios_of_last c (j + 1) ∷ []) (λ f r. f ⊟ r ≐ f ⊞ ⊖ num 1 ⊠ r) tt
+  pub target_by_rank : (a : Part) → target_of c a ≡ firsts_of c a +ℤ sign_of a *ℤ ratios_of_last c (rank_of a)
+  target_by_rank (Φ j) = ap (λ z. firsts_of c (Φ j) +ℤ z) (sym (*ℤ_idl (ratios_of_last c j)))
+  target_by_rank (Ψ j) = ring (firsts_of c (Ψ j) ∷ ratios_of_last c (j + 1) ∷ []) (λ f r. f ⊟ r ≐ f ⊞ ⊖ num 1 ⊠ r) tt
 
-  pub target_is_form : (k : ℕ) → k < parts J → right_hand_side c k ≡ form_target loss_form k
+  pub target_is_form : (k : ℕ) → k < parts J → right_hand_side c k ≡ form_target (loss_form c) k
   unfolding right_hand_side
   target_is_form k below =
       let a : Part = part_by_index J k in
       target_by_rank a
-      ∙ ap (λ z. firsts_of a +ℤ z)
+      ∙ ap (λ z. firsts_of c a +ℤ z)
       (ap (λ z. sign_of a *ℤ z) (ratios_by_development (rank_of a) (rank_below J k below))
       ∙ sym (felt_by_rank (λ d. c.y (J - d)) (rank_of a) (sign_of a) (rank_below J k below)))
 
   -- the residue by the matrix is the residue observation by observation
-  pub residue_is_form : (m : ℕ) (u : Vector) (k : ℕ) → k < parts J → residue_times c m u k ≡ form_residue loss_form (pos m) u k
+  pub residue_is_form : (m : ℕ) (u : Vector) (k : ℕ) → k < parts J → residue_times c m u k ≡ form_residue (loss_form c) (pos m) u k
   unfolding residue_times
   residue_is_form m u k below =
       let row = sum_cong (parts J) (λ l l-below. ap (λ z. z *ℤ u l) (matrix_is_form k l below l-below)) in
       ap₂ (λ a b. a -ℤ pos m *ℤ b) row (target_is_form k below)
-      ∙ residue_by_observation loss_form (pos m) u k below
+      ∙ residue_by_observation (loss_form c) (pos m) u k below

@@ -17,7 +17,8 @@ use Rattle.definitions.specs.Observations.{Chain}
 use Rattle.definitions.specs.Matrix.{Part, Φ, Ψ, part_by_index, own, matrix, ratios_of_last, right_hand_side, residue_times}
 use Rattle.laws.specs.Ranks.{rank_of, sign_of}
 use Rattle.laws.proofs.Ranks.{part_by_index_phi, part_by_index_psi, rank_entry, rank_below, matrix_by_ranks}
-use Rattle.laws.proofs.PrecisionMatrix.{firsts_of, ratios_by_development, target_by_rank}
+use Rattle.laws.proofs.PrecisionMatrix.{ratios_by_development, target_by_rank}
+use Rattle.laws.specs.PrecisionMatrix.{firsts_of}
 
 -- ---- ranks: their sum is J·(J + 1)
 

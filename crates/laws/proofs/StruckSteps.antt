@@ -5,7 +5,7 @@ use Rattle.std.specs.Prelude.{◌≡◌, ◌≢◌, true, false, ◌&&◌, ◌||
 use Rattle.std.proofs.Math.Path.{refl, ap}
 use Rattle.std.proofs.Common.{sym, subst, ◌∙◌, arith, eqb→eq, ne_eqb}
 use Rattle.std.proofs.Math.Bool.{Bool, not, cond}
-use Rattle.std.proofs.lemmas.Bool.{false≢true}
+use Rattle.std.proofs.lemmas.Bool.{eqb-false}
 use Rattle.std.proofs.Math.Decide.{ℕ_discrete}
 use Rattle.std.proofs.Math.Dec.{T, leb→le, eqb_refl}
 use Rattle.integers.specs.Sum.{total}
@@ -13,7 +13,7 @@ use Rattle.integers.specs.Total.{total_cong, total_const, total-+, total_term}
 use Rattle.definitions.specs.Refusals.{Check, clear, unless, ◌then◌, is_clear}
 use Rattle.definitions.specs.Strikes.{Step, step, same_step, is_step, left_beside, EachLeft, strike_check}
 use Rattle.laws.proofs.ClearChecks.{then_clear, unless_clear}
-use Rattle.laws.specs.StruckSteps.{Strikable, left_of}
+use Rattle.laws.specs.StruckSteps.{Strikable, OneLess, left_of}
 
 -- ---- one that is left
 
@@ -66,7 +66,7 @@ one_of (suc n) a below = by_place (ℕ_discrete a n) (one_of n a)
     by_place (yes here) before = rw (here, none_of n n (omega arith)) (yes_one (eqb n n) (eqb_refl n))
     by_place (no apart) before = rw (before (omega arith), ne_eqb a n apart) refl
 
-pub one_less : (n a : ℕ) (m : ℕ → Bool) → a < n → m a ≡ false → left_of n m ≡ left_of n (λ i. m i || eqb a i) + 1
+pub one_less : (n a : ℕ) (m : ℕ → Bool) → OneLess n a m
 one_less n a m below unmarked =
     total_cong n (λ i _. by_test i (eqb a i) refl)
     ∙ total-+ n (λ i. cond (m i || eqb a i) 0 1) (λ i. cond (eqb a i) 1 0)
@@ -116,13 +116,6 @@ module _ (n i j l : ℕ) (m : ℕ → Bool) where
           omega (arith, same, one_less n i m its.0 its.1, its.2)
       by_test false e = omega (arith, kept n m (λ k. eqb i k && false) (λ k. and_false (eqb i k)), some)
 
-more_than_one : {n : ℕ} → 1 ≤ n → eqb n 1 ≡ false → 2 ≤ n
-more_than_one {n} some e = by_place (ℕ_discrete n 1)
-  where
-    by_place : Dec (n ≡ 1) → 2 ≤ n
-    by_place (yes one) = absurd (false≢true (sym e ∙ ap (λ k. eqb k 1) one))
-    by_place (no other) = omega (arith, other)
-
 -- a step that is there and not struck yet, and not the last one of its column
 pub strike_leaves : (J : ℕ) (struck : Step → Bool) (s : Step) → EachLeft J struck → is_step J s ≡ true → struck s ≡ false
     → eqb (left_beside J struck s) 1 ≡ false → EachLeft J (λ t. struck t || same_step s t)
@@ -132,7 +125,9 @@ strike_leaves J struck (step zero i j) h there unstruck many = record {
       let below : i + j ≤ J = leb→le (i + j) J (subst T (sym there) tt) in (
         omega (arith, below, same),
         ap (λ n. struck (step 0 i n)) (sym same) ∙ unstruck,
-        more_than_one (h.paid l few) (ap (λ n. eqb (left_of (J - n + 1) (λ k. struck (step 0 k n))) 1) (sym same) ∙ many),
+        let not_one = eqb-false (left_of (J - l + 1) (λ k. struck (step 0 k l))) 1
+            (ap (λ n. eqb (left_of (J - n + 1) (λ k. struck (step 0 k n))) 1) (sym same) ∙ many) in
+            omega (arith, h.paid l few, not_one),
       ));
   incurred = λ l below. subst (λ n. 1 ≤ n) (sym (kept (J - l) (λ k. struck (step 1 k l)) (λ k. false) (λ k. refl))) (h.incurred l below);
 }
@@ -142,7 +137,9 @@ strike_leaves J struck (step (suc zero) i j) h there unstruck many = record {
       let placed : i + j < J = leb→le (suc (i + j)) J (subst T (sym there) tt) in (
         omega (arith, placed, same),
         ap (λ n. struck (step 1 i n)) (sym same) ∙ unstruck,
-        more_than_one (h.incurred l below) (ap (λ n. eqb (left_of (J - n) (λ k. struck (step 1 k n))) 1) (sym same) ∙ many),
+        let not_one = eqb-false (left_of (J - l) (λ k. struck (step 1 k l))) 1
+            (ap (λ n. eqb (left_of (J - n) (λ k. struck (step 1 k n))) 1) (sym same) ∙ many) in
+            omega (arith, h.incurred l below, not_one),
       ));
 }
 strike_leaves J struck (step (suc (suc channel)) i j) h there unstruck many = record {

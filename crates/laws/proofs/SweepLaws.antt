@@ -22,7 +22,8 @@ use Rattle.laws.specs.Chains.{Carried}
 use Rattle.laws.proofs.Diagonal.{diagonal_positive}
 use Rattle.laws.proofs.Judged.{entry_of_chain, residue_of_chain}
 use Rattle.laws.proofs.LossForm.{loss_is_form}
-use Rattle.laws.proofs.PrecisionMatrix.{loss_form, residue_is_form}
+use Rattle.laws.proofs.PrecisionMatrix.{residue_is_form}
+use Rattle.laws.specs.PrecisionMatrix.{loss_form}
 use Rattle.laws.specs.Quadratic.{Form}
 use Rattle.laws.proofs.Quadratic.{form_loss, form_residue, apart, along, own_squares, combined_squares, expansion, along_apart}
 use Rattle.laws.proofs.StepLaws.{added, moved_falls, step_at_lem, step_elsewhere, step_length, step_inside, step_residues}

@@ -15,7 +15,8 @@ use Rattle.definitions.specs.Matrix.{Part, Φ, Ψ, part_by_index, own_of, own, r
 use Rattle.definitions.specs.Residues.{residue_by, observed_times}
 use Rattle.laws.proofs.Quadratic.{missed, felt, apart, expansion}
 use Rattle.laws.proofs.LossForm.{combined_is_ratio, loss_is_form}
-use Rattle.laws.proofs.PrecisionMatrix.{loss_form, firsts_of, by_development, felt_by_rank, residue_is_form}
+use Rattle.laws.proofs.PrecisionMatrix.{by_development, felt_by_rank, residue_is_form}
+use Rattle.laws.specs.PrecisionMatrix.{loss_form, firsts_of}
 use Rattle.laws.specs.Ranks.{rank_of, sign_of}
 use Rattle.laws.proofs.Ranks.{part_by_index_phi, part_by_index_psi, by_part, rank_below}
 

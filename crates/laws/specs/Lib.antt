@@ -7,6 +7,7 @@ pub mod Columns
 pub mod Decimal
 pub mod Filled
 pub mod FlatPriors
+pub mod FormGuarantee
 pub mod LargerAmounts
 pub mod Lines
 pub mod LogarithmBits
@@ -15,8 +16,10 @@ pub mod LogarithmOrder
 pub mod MachineLaws
 pub mod NumberBytes
 pub mod Numbers
+pub mod ObservedResidues
 pub mod Pages
 pub mod PinnedChains
+pub mod PrecisionMatrix
 pub mod Printed
 pub mod Quadratic
 pub mod Ranks
