@@ -1,6 +1,5 @@
 -- Numbers as text: how many bytes they have, that they are read back whole, and that none of their bytes ends a line.
 use Rattle.std.specs.Prelude.{ℕ, ◌/◌, ◌%◌, ◌≤◌, Bool, cond, [], ◌∷◌, ◌++◌, length}
-use Rattle.std.proofs.Math.Option.{some}
 use Rattle.definitions.specs.Layout.{Bytes}
 use Rattle.definitions.specs.Text.{digit, decimal_from}
 

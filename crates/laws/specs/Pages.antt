@@ -3,7 +3,7 @@ use Rattle.std.specs.Prelude.{ℕ, ◌^◌, ◌≤◌, ◌<◌, List, ℤ, nat_a
 use Rattle.definitions.specs.Words.{part}
 use Rattle.definitions.specs.Layout.{parts}
 use Rattle.definitions.specs.Refusals.{year_limit, part_limit}
-use Rattle.definitions.specs.Matrix.{Part, own}
+use Rattle.definitions.specs.Matrix.{Part}
 use Rattle.definitions.specs.Text.{index_of}
 
 -- what a line is asked for: its numbers are small enough for their columns

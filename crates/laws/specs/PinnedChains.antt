@@ -4,7 +4,7 @@ use Rattle.std.specs.Prelude.{ℕ, ◌+◌, ◌*◌, ◌≡◌, [], ◌∷◌, p
 use Rattle.definitions.specs.Words.{part}
 use Rattle.definitions.specs.Observations.{Chain}
 use Rattle.definitions.specs.Loss.{Vector, loss, loss_times}
-use Rattle.definitions.specs.Matrix.{own, matrix, right_hand_side, figures_from}
+use Rattle.definitions.specs.Matrix.{figures_from}
 
 abbrev pub by_year : ℕ → Chain
 by_year J = record {
