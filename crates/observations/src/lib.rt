@@ -27,7 +27,7 @@ pub const RATIO_WEIGHTS: usize = 62;
 
 // Ticks: the logarithms of the amounts, paid block first; then the prior means. Weights: of each part's observations (p and q), of the
 // priors (s and t), of the ratios by development year (g). Variances: of each part (σ² and τ²). Struck: the marks of struck steps.
-#[derive(Drop)]
+#[derive(Clone, Copy)]
 pub struct Observations {
     pub ticks: [i64; 303],
     pub weights: [u64; 77],

@@ -14,7 +14,7 @@ pub mod state;
 
 // Nothing (J = 0), or the observations of an accepted file with its struck steps, the figures that are made of them, the mean and the
 // sweeps run since open or the last strike.
-#[derive(Drop)]
+#[derive(Clone, Copy)]
 pub struct Session {
     observations: Observations,
     figures: Figures,
