@@ -9,6 +9,7 @@ use Rattle.definitions.specs.Matrix as D
 use Rattle.definitions.specs.Strikes.{Step}
 use Rattle.definitions.specs.Ultimate.{Divided, numerator, both_variances}
 use Rattle.definitions.specs.Machine.{Answer, refused, State, empty, holds, row_part}
+use Rattle.laws.specs.Numbers as Listed
 use Rattle.laws.proofs.Numbers as N
 use Rattle.laws.proofs.Rows.{row_inside, row_some, row_shown}
 use Rattle.readings.specs.declared.rows.RowPlace.{RowPlace}
@@ -59,8 +60,8 @@ use Rattle.telling.specs.declared.Projected.{Projected}
 use Rattle.telling.specs.Told.{none, told, refusal_told, judge_told, sweep_told, told_of_row, figures_told, system_told, ultimate_told}
 use Rattle.desk.specs.Calls.{Numbered, Opens, Strikes, Judges, Sweeps, Writes, figure_of, Projects, Weighs, Shows, Closes, ShowsRow}
 
-never_0 : {a : Answer} → N.NumberedAnswer a → Numbered a
-never_0 listed place e = subst N.NumberedAnswer e listed
+never_0 : {a : Answer} → Listed.NumberedAnswer a → Numbered a
+never_0 listed place e = subst Listed.NumberedAnswer e listed
 
 abbrev itself : D.Figures → D.Figures
 itself F = F
@@ -238,7 +239,7 @@ closed held none-held own A b μ = state_of_empty _ (λ h. omega (arith, h.holdi
 -- ---- row
 
 row_numbered : (file : Bytes) (channel year place : ℕ) → row_check file channel year ≢ refuses 0 place
-row_numbered file channel year place e = (subst N.Numbered e (N.row_numbered file channel year)).listed
+row_numbered file channel year place e = (subst Listed.Numbered e (N.row_numbered file channel year)).listed
 
 module _ (file : Bytes) (channel year : ℕ) where
   abbrev shown : RowShown

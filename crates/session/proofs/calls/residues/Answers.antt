@@ -2,6 +2,4 @@
 use Rattle.session.proofs.calls.residues.Goals as goal
 
 pub returns : goal.returns
-returns c =
-    let kept = c.args.s.observations in
-    c.residues_lent.ensures kept.variances
+returns c = c.residues_lent.ensures c.args.s.observations.variances

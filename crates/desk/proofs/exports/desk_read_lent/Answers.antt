@@ -1,0 +1,6 @@
+-- `exports::desk_read_lent` meets its contract: its answer stands for the session's.
+use Rattle.desk.specs.CallLaws.{writes_told}
+use Rattle.desk.proofs.exports.desk_read_lent.Goals as goal
+
+pub returns : goal.returns
+returns c = writes_told _ _ _ _ _ _ c.read_lent.ensures c.write_told.ensures
