@@ -1,3 +1,1 @@
-pub mod BroughtBack
 pub mod Wide
-pub mod WideLaws

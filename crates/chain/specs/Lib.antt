@@ -7,7 +7,6 @@
 --   AcceptedFits   the figures of an accepted file fit, and its prior means are inside the limits
 --   Sizes          the sizes of what the code computes
 --   Turned         an array that is rewritten from the front
-pub mod AcceptedFits
 pub mod Arrays
 pub mod Decides
 pub mod Fitting

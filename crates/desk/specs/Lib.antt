@@ -2,7 +2,6 @@ pub mod Sizes
 pub mod Calls
 pub mod CallLaws
 pub mod Pinned
-pub mod PinnedSession
 pub mod PinnedUltimate
 pub mod PinnedStrikes
 pub mod PinnedResidues

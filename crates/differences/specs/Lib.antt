@@ -2,4 +2,3 @@
 --   Differences       the contracts
 --   DifferenceLaws    what is read is what a session keeps; sizes; the sums make the definitions' residues
 pub mod Differences
-pub mod DifferenceLaws

@@ -16,7 +16,7 @@ use Rattle.laws.proofs.Tables.{tab_cong}
 use Rattle.observations.specs.Arrays.{at, mean_at, prior_at, ratio_at}
 use Rattle.observations.specs.HoldsChain.{HoldsChain}
 use Rattle.observations.specs.Strikes.{LeftIn}
-use Rattle.observations.specs.StrikeLaws.{unmarked_few}
+use Rattle.observations.proofs.StrikeLaws.{unmarked_few}
 use Rattle.chain.specs.Arrays.{figures_at, figures_of, cell, cell_at, cell_mirrored}
 use Rattle.figures.specs.Weights.{Shares, SharesOf, Owns, OwnWeights}
 use Rattle.figures.specs.Entries.{OfMatrix, MatrixOf}

@@ -1,10 +1,6 @@
 pub mod Decided
 pub mod State
-pub mod StateLaws
-pub mod SessionLaws
 pub mod Bounds
 pub mod Fitted
 pub mod Reached
-pub mod Worth
 pub mod Passing
-pub mod Pinned

@@ -13,7 +13,7 @@ use Rattle.laws.specs.ReachedStates.{after}
 use Rattle.laws.proofs.ReachedStates.{Good, reached_good}
 use Rattle.chain.specs.Arrays.{figures_of, mean_of}
 use Rattle.chain.specs.Fitting.{Fitting}
-use Rattle.chain.specs.AcceptedFits.{admitted_fits}
+use Rattle.chain.proofs.AcceptedFits.{admitted_fits}
 use Rattle.holding.specs.State.{Held, Fits}
 
 -- what a session keeps of a file, a mean and a total

@@ -1,4 +1,1 @@
 pub mod Judges
-pub mod JudgeLaws
-pub mod MeanOfRecord
-pub mod Pinned

@@ -5,5 +5,4 @@
 --   Places       each field ends inside the file
 pub mod Checks
 pub mod CheckLaws
-pub mod PartLimits
 pub mod Places

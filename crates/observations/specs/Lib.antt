@@ -8,14 +8,7 @@
 pub mod Arrays
 pub mod HoldsChain
 pub mod Reading
-pub mod ReadLaws
 pub mod Ratios
-pub mod RatioLaws
 pub mod Means
-pub mod OfFile
 pub mod Strikes
-pub mod StrikeLaws
 pub mod Inside
-pub mod InsideLaws
-pub mod MarkLaws
-pub mod KeptLaws

@@ -1,4 +1,1 @@
 pub mod Opens
-pub mod OpenLaws
-pub mod OpenCall
-pub mod Pinned

@@ -1,5 +1,3 @@
 pub mod Projects
 pub mod Central
-pub mod CentralLaws
 pub mod ProjectLaws
-pub mod Pinned

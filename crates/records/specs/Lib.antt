@@ -1,4 +1,3 @@
 -- Mean records: written and read back.
 pub mod Records
 pub mod Parse
-pub mod MeanOfRecord

@@ -13,14 +13,14 @@ use Rattle.laws.specs.Printed.{MeanSettled, Ends}
 use Rattle.laws.proofs.Printed.{opening, sweeping, swept_ends}
 use Rattle.observations.specs.declared.Observations.{Observations}
 use Rattle.holding.specs.State.{Held, state_of, session_state}
-use Rattle.holding.specs.StateLaws.{held_of_session}
+use Rattle.holding.proofs.StateLaws.{held_of_session}
 use Rattle.sweeping.specs.declared.SweepAnswer.{SweepAnswer}
 use Rattle.sweeping.specs.declared.SweepAnswer.TheVariants.{Settled, Going, Refused}
 use Rattle.sweeping.specs.Sweeps.{of_sweep}
 use Rattle.writing.specs.declared.WriteAnswer.{WriteAnswer}
 use Rattle.writing.specs.declared.WriteAnswer.TheVariants.{Refused as WriteRefused}
 use Rattle.writing.specs.Writes.{of_write, Text, Writes}
-use Rattle.writing.specs.WriteLaws.{refused_written}
+use Rattle.writing.proofs.WriteLaws.{refused_written}
 use Rattle.session.specs.declared.answers.Sweeping.{Sweeping}
 use Rattle.session.specs.Value.{held_by}
 

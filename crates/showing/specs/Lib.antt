@@ -2,5 +2,3 @@ pub mod Shows
 pub mod Shown
 pub mod Mirrored
 pub mod ShowCall
-pub mod ShowLaws
-pub mod Pinned

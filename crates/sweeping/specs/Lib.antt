@@ -1,4 +1,3 @@
 pub mod Sweeps
 pub mod SweepLaws
 pub mod SweepCall
-pub mod Pinned

@@ -13,7 +13,7 @@ use Rattle.steps.specs.declared.Working.{Working}
 use Rattle.steps.specs.declared.sweep.Swept.{Swept}
 use Rattle.steps.specs.Sweeps.{Holds, SweptTo, passes_is}
 use Rattle.holding.specs.State.{Held, Fits}
-use Rattle.holding.specs.StateLaws.{state_of_held}
+use Rattle.holding.proofs.StateLaws.{state_of_held}
 use Rattle.sweeping.specs.declared.SweepAnswer.TheVariants.{Settled, Going, Refused}
 use Rattle.sweeping.specs.Sweeps.{Sweeps}
 use Rattle.sweeping.specs.SweepLaws.{sweeps_settled, sweeps_spent, sweeps_done, sweeps_going}

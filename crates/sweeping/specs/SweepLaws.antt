@@ -14,8 +14,8 @@ use Rattle.definitions.specs.Sweep.{Swept, sweeps, sweep_limit}
 use Rattle.definitions.specs.Machine.{Answer, settled, going, refused, State, holds, Outcome, answers, sweep_call, swept_to}
 use Rattle.chain.specs.Arrays.{figures_of, mean_of}
 use Rattle.holding.specs.State.{Held, Fits, state_held, state_of}
-use Rattle.holding.specs.StateLaws.{state_of_held, state_of_empty}
-use Rattle.holding.specs.Worth.{worth, rounded}
+use Rattle.holding.proofs.StateLaws.{state_of_held, state_of_empty}
+use Rattle.holding.proofs.Worth.{worth, rounded}
 use Rattle.sweeping.specs.declared.SweepAnswer.{SweepAnswer}
 use Rattle.sweeping.specs.declared.SweepAnswer.TheVariants.{Settled, Going, Refused}
 use Rattle.sweeping.specs.Sweeps.{of_sweep, sweeps_to, Sweeps}

@@ -1,7 +1,7 @@
 -- What C is told, case by case and of every number, as include/desk.h has it.
-use Rattle.std.specs.Prelude.{ℕ, ◌≡◌, refl, List, ℤ, pos}
+use Rattle.std.specs.Prelude.{ℕ, ◌≡◌, List, ℤ, pos}
 use Rattle.integers.specs.Summation.{total}
-use Rattle.definitions.specs.Layout.{row_start, row_at, row_length}
+use Rattle.definitions.specs.Layout.{row_at, row_length}
 use Rattle.definitions.specs.Refusals.{clear, refuses}
 use Rattle.definitions.specs.Matrix.{passed, fails}
 use Rattle.definitions.specs.Machine.{refused, opened, judged, settled, going, written, ultimate_is, struck_out}
@@ -11,7 +11,7 @@ use Rattle.showing.specs.declared.FiguresAnswer.TheVariants.{Shown, Refused}
 use Rattle.telling.specs.declared.Refusal.{Refusal}
 use Rattle.telling.specs.Told.{refusal_told, judge_told, sweep_told, ultimate_told, told_of_row, system_told}
 
-abbrev refusal : ℕ → ℕ → Refusal
+abbrev pub refusal : ℕ → ℕ → Refusal
 refusal number place = record { number = number; place = place }
 
 pub record Pinned : Type 0 where
@@ -43,25 +43,3 @@ pub record Pinned : Type 0 where
       ≡ record { refusal = refusal 0 0; last = J; closeness = e; own = D; matrix = A; right_hand = b }
   pub refused_system : (number place : ℕ) (F : Figures)
       → (system_told (record { answer = Refused number place; figures = F })).refusal ≡ refusal number place
-
-pub pinned : Pinned
-unfolding row_start total
-pinned = record {
-  opened_file = refl;
-  refused_file = λ number place. refl;
-  written_mean = refl;
-  struck_step = refl;
-  passed_mean = refl;
-  failing_mean = λ k. refl;
-  refused_record = λ number place. refl;
-  settled_mean = λ n. refl;
-  going_mean = λ n. refl;
-  refused_sweeps = λ number place. refl;
-  central_ultimate = λ floor remainder divisor. refl;
-  refused_ultimate = λ number place. refl;
-  shown_row = λ J channel year. refl;
-  row_of_F = refl;
-  refused_row = λ J channel year number place. refl;
-  shown_system = λ J e D A b. refl;
-  refused_system = λ number place F. refl;
-}

@@ -1,4 +1,2 @@
 pub mod Weighs
 pub mod Bytes
-pub mod WeighLaws
-pub mod Pinned

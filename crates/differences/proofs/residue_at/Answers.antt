@@ -22,7 +22,7 @@ use Rattle.laws.proofs.Ranks.{part_by_index_phi, part_psi}
 use Rattle.observations.specs.declared.Observations.{Observations}
 use Rattle.observations.specs.Arrays.{observations_at}
 use Rattle.differences.specs.Differences.{left_in, prior_term, step_term}
-use Rattle.differences.specs.DifferenceLaws.{prior_small, steps_small}
+use Rattle.differences.proofs.DifferenceLaws.{prior_small, steps_small}
 use Rattle.differences.proofs.residue_at.Goals as goal
 use Rattle.differences.proofs.residue_at.Goals.{After-prior_missed, Else-k-years, Then-k-years}
 

@@ -12,7 +12,7 @@ use Rattle.laws.proofs.Filled.{filled_none, filled_next, filled_to}
 use Rattle.observations.specs.declared.Observations.{Observations}
 use Rattle.observations.specs.Arrays.{observations_at}
 use Rattle.differences.specs.Differences.{left_in, ResidueAt}
-use Rattle.differences.specs.DifferenceLaws.{ratios_small, residue_is}
+use Rattle.differences.proofs.DifferenceLaws.{ratios_small, residue_is}
 use Rattle.differences.proofs.residues_of.Goals as goal
 use Rattle.differences.proofs.residues_of.Goals.{After-residue_at-residue, In-loop-k}
 

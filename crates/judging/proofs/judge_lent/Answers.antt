@@ -16,8 +16,8 @@ use Rattle.chain.specs.Decides.{not_yes, not_no}
 use Rattle.chain.specs.Judge.{judgement_of, own_fits, judged}
 use Rattle.holding.specs.State.{Held, Fits, held_at}
 use Rattle.holding.specs.Fitted.{Framed, asks_residues, held_inside, fits, frame, rows}
-use Rattle.judging.specs.JudgeLaws.{judges_closed, judges_refused, judges_passed, judges_fails}
-use Rattle.judging.specs.MeanOfRecord.{mean_inside, mean_is}
+use Rattle.judging.proofs.JudgeLaws.{judges_closed, judges_refused, judges_passed, judges_fails}
+use Rattle.judging.proofs.MeanOfRecord.{mean_inside, mean_is}
 use Rattle.judging.proofs.judge_lent.Goals as goal
 use Rattle.judging.proofs.judge_lent.Goals.{After-test-judgement, Else-not-frame_fits, Else-not-tested-2, In_default, Start}
 

@@ -1,7 +1,7 @@
 -- `observations::observe` meets its contract: logarithms, parts and ratios one after another, each keeping what is there.
 use mathlib.Core.Path.{sym, subst}
 use Rattle.observations.specs.Ratios.{OfVariances, RatiosWeighed}
-use Rattle.observations.specs.OfFile.{of_variances, observed}
+use Rattle.observations.proofs.OfFile.{of_variances, observed}
 use Rattle.observations.proofs.observe.Goals as goal
 
 pub weigh_ratios-requires : goal.weigh_ratios-requires

@@ -15,8 +15,8 @@ use Rattle.figures.specs.Gathered.{OfObservations, FiguresOf}
 use Rattle.holding.specs.State.{Held, Fits, held_at, held_in}
 use Rattle.opening.specs.declared.OpenAnswer.TheVariants.{Opened}
 use Rattle.opening.specs.Opens.{Opens}
-use Rattle.opening.specs.OpenLaws.{opens_taken, opens_refused}
-use Rattle.opening.specs.OpenCall.{file_accepted, of_means, of_observations, done}
+use Rattle.opening.proofs.OpenLaws.{opens_taken, opens_refused}
+use Rattle.opening.proofs.OpenCall.{file_accepted, of_means, of_observations, done}
 use Rattle.opening.proofs.open_lent.Goals as goal
 use Rattle.opening.proofs.open_lent.Goals.{After-last_year-last, After-observe, After-start_mean, Else-is_open, Start}
 

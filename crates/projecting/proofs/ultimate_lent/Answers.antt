@@ -10,7 +10,7 @@ use Rattle.chain.specs.Arrays.{figures_of}
 use Rattle.holding.specs.State.{Held, Fits, held_at}
 use Rattle.holding.specs.Fitted.{frame}
 use Rattle.holding.specs.Passing.{held_passes}
-use Rattle.projecting.specs.ProjectLaws.{projects_refused, projects_before, projects_behind, projects_central}
+use Rattle.projecting.proofs.ProjectLaws.{projects_refused, projects_before, projects_behind, projects_central}
 use Rattle.projecting.proofs.ultimate_lent.Goals as goal
 use Rattle.projecting.proofs.ultimate_lent.Goals.{In_default, Start}
 

@@ -13,7 +13,7 @@ use Rattle.definitions.specs.Words.{tab_from}
 use Rattle.definitions.specs.Layout.{part_at, parts}
 use Rattle.fields.specs.Fields.{signed_read, signed_outside}
 use Rattle.layout.specs.CheckLaws.{left_start, left_none, left_next, left_bad}
-use Rattle.layout.specs.PartLimits.{part_yes, part_low, part_high}
+use Rattle.layout.proofs.PartLimits.{part_yes, part_low, part_high}
 use Rattle.records.specs.Parse.{part_refused}
 use Rattle.records.proofs.RecordSteps.{read_next}
 use Rattle.records.proofs.parse_parts.Invariants.{read}

@@ -1,5 +1,5 @@
 -- `figures_lent` meets its contract: what it makes of the parts that are shown is what the state shows.
-use Rattle.showing.specs.ShowLaws.{shows_parts}
+use Rattle.showing.proofs.ShowLaws.{shows_parts}
 use Rattle.showing.proofs.figures_lent.Goals as goal
 
 pub returns : goal.returns

@@ -15,9 +15,9 @@ use Rattle.holding.specs.State.{Held, Fits, held_at, held_in}
 use Rattle.striking.specs.declared.StrikeAnswer.TheVariants.{Struck}
 use Rattle.striking.specs.Strikes.{Strikes}
 use Rattle.striking.specs.Steps.{OfStep, mark_of}
-use Rattle.striking.specs.StepLaws.{mark_inside, of_clear}
+use Rattle.striking.proofs.StepLaws.{mark_inside, of_clear}
 use Rattle.striking.specs.Anew.{Anew}
-use Rattle.striking.specs.StrikeLaws.{strikes_closed, strikes_refused, check_agrees, done}
+use Rattle.striking.proofs.StrikeLaws.{strikes_closed, strikes_refused, check_agrees, done}
 use Rattle.striking.proofs.strike_lent.Goals as goal
 use Rattle.striking.proofs.strike_lent.Goals.{After-check_step-checked, Else-not-is_open, In_default, Start}
 

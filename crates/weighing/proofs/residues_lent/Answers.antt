@@ -6,13 +6,13 @@ use native.Mathlib.Omega.{arith}
 use Rattle.definitions.specs.Refusals.{clear, record_check}
 use Rattle.layout.specs.Checks.{told}
 use Rattle.layout.specs.CheckLaws.{passed}
-use Rattle.records.specs.MeanOfRecord.{part_small, part_is}
+use Rattle.records.proofs.MeanOfRecord.{part_small, part_is}
 use Rattle.records.specs.Parse.{padded}
 use Rattle.observations.specs.declared.Observations.{Observations}
 use Rattle.observations.specs.Arrays.{observations_at}
 use Rattle.holding.specs.State.{Held, Fits, held_at}
 use Rattle.holding.specs.Fitted.{frame}
-use Rattle.weighing.specs.WeighLaws.{weighs_closed, weighs_refused, weighs_short, weighs_written}
+use Rattle.weighing.proofs.WeighLaws.{weighs_closed, weighs_refused, weighs_short, weighs_written}
 use Rattle.weighing.proofs.residues_lent.Goals as goal
 use Rattle.weighing.proofs.residues_lent.Goals.{Else-not-is_open, In_default, Start}
 

@@ -17,7 +17,7 @@ use Rattle.holding.specs.State.{Held, Fits, held_at}
 use Rattle.holding.specs.Fitted.{frame}
 use Rattle.writing.specs.declared.WriteAnswer.TheVariants.{Written}
 use Rattle.writing.specs.Writes.{Pages}
-use Rattle.writing.specs.WriteLaws.{writes_refused, writes_short, writes_written}
+use Rattle.writing.proofs.WriteLaws.{writes_refused, writes_short, writes_written}
 use Rattle.writing.proofs.page_lent.Goals as goal
 use Rattle.writing.proofs.page_lent.Goals.{In_default}
 

@@ -3,7 +3,7 @@ use mathlib.Core.Path.{sym, ap, ◌∙◌}
 use lib.IntN.{pos, negsuc}
 use lib.Signed.{lt_z}
 use mir.Facts.{to_z-of_z}
-use Rattle.arithmetic.specs.BroughtBack.{above_limit, below_limit, within_limits}
+use Rattle.arithmetic.proofs.BroughtBack.{above_limit, below_limit, within_limits}
 use Rattle.arithmetic.proofs.limits.brought_back.Goals as goal
 
 pub returns-then-z-gt-PART_LIMIT : goal.returns-then-z-gt-PART_LIMIT

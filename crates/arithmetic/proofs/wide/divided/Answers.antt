@@ -12,7 +12,7 @@ use Rattle.integers.specs.Size.{nat_abs-+, fits, kept}
 use Rattle.arithmetic.specs.declared.wide.Digit.{Digit}
 use Rattle.arithmetic.specs.declared.wide.Quotient.{Quotient}
 use Rattle.arithmetic.specs.Wide.{value_of, Divides}
-use Rattle.arithmetic.specs.WideLaws.{first_small, divided_is}
+use Rattle.arithmetic.proofs.WideLaws.{first_small, divided_is}
 use Rattle.arithmetic.proofs.wide.divided.Goals as goal
 use Rattle.arithmetic.proofs.wide.divided.Goals.{After-struct_told-2-1}
 

@@ -1,5 +1,5 @@
 -- `next_digit` meets its contract.
-use Rattle.arithmetic.specs.WideLaws.{digit_is}
+use Rattle.arithmetic.proofs.WideLaws.{digit_is}
 use Rattle.arithmetic.proofs.wide.next_digit.Goals as goal
 
 pub returns : goal.returns

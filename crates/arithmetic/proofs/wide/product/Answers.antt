@@ -9,7 +9,7 @@ use mir.Facts.{to_z-of_z, to_z_pos}
 use Rattle.integers.specs.Bits.{stored, same}
 use Rattle.integers.specs.Size.{fits, kept}
 use Rattle.arithmetic.specs.Wide.{IsWide, Divides}
-use Rattle.arithmetic.specs.WideLaws.{upper_small, lower_small, high_small, product_is}
+use Rattle.arithmetic.proofs.WideLaws.{upper_small, lower_small, high_small, product_is}
 use Rattle.arithmetic.proofs.wide.product.Goals as goal
 use Rattle.arithmetic.proofs.wide.product.Goals.{After-struct_told-1, Start}
 

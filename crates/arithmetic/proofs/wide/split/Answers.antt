@@ -10,7 +10,7 @@ use Rattle.integers.specs.Bits.{stored, same}
 use Rattle.integers.specs.Floor.{floor_div}
 use Rattle.integers.specs.Linear.{linear}
 use Rattle.integers.specs.Size.{fits, kept}
-use Rattle.arithmetic.specs.WideLaws.{left, left_nonneg, left_small, multiple_small, word_split}
+use Rattle.arithmetic.proofs.WideLaws.{left, left_nonneg, left_small, multiple_small, word_split}
 use Rattle.arithmetic.proofs.wide.split.Goals as goal
 use Rattle.arithmetic.proofs.wide.split.Goals.{After-floor-floor, Start}
 

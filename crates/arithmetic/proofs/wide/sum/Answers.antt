@@ -10,7 +10,7 @@ use Rattle.integers.specs.Bits.{stored, read}
 use Rattle.integers.specs.Size.{fits, kept}
 use Rattle.arithmetic.specs.declared.wide.Wide.{Wide}
 use Rattle.arithmetic.specs.Wide.{value_of, IsWide}
-use Rattle.arithmetic.specs.WideLaws.{highs_small, sum_small, sum_is}
+use Rattle.arithmetic.proofs.WideLaws.{highs_small, sum_small, sum_is}
 use Rattle.arithmetic.proofs.wide.sum.Goals as goal
 use Rattle.arithmetic.proofs.wide.sum.Goals.{After-struct_told-2-1}
 

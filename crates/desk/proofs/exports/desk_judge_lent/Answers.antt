@@ -1,5 +1,5 @@
 -- `exports::desk_judge_lent` meets its contract: its answer stands for the session's.
-use Rattle.desk.specs.CallLaws.{judges_told}
+use Rattle.desk.proofs.CallLaws.{judges_told}
 use Rattle.desk.proofs.exports.desk_judge_lent.Goals as goal
 
 pub returns : goal.returns

@@ -1,5 +1,5 @@
 -- `exports::desk_open_lent` meets its contract: its answer stands for the session's.
-use Rattle.desk.specs.CallLaws.{opens_told}
+use Rattle.desk.proofs.CallLaws.{opens_told}
 use Rattle.desk.proofs.exports.desk_open_lent.Goals as goal
 
 pub returns : goal.returns

@@ -1,5 +1,5 @@
 -- `exports::desk_read_lent` meets its contract: its answer stands for the session's.
-use Rattle.desk.specs.CallLaws.{writes_told}
+use Rattle.desk.proofs.CallLaws.{writes_told}
 use Rattle.desk.proofs.exports.desk_read_lent.Goals as goal
 
 pub returns : goal.returns

@@ -1,5 +1,5 @@
 -- `exports::desk_residues_lent` meets its contract: its answer stands for the session's.
-use Rattle.desk.specs.CallLaws.{weighs_told}
+use Rattle.desk.proofs.CallLaws.{weighs_told}
 use Rattle.desk.proofs.exports.desk_residues_lent.Goals as goal
 
 pub returns : goal.returns

@@ -4,7 +4,7 @@ use Rattle.std.proofs.Math.Path.{ap}
 use Rattle.definitions.specs.Refusals.{clear, row_check}
 use Rattle.layout.specs.Checks.{told}
 use Rattle.layout.specs.CheckLaws.{passed, row_shown}
-use Rattle.desk.specs.CallLaws.{row_refused, row_shows}
+use Rattle.desk.proofs.CallLaws.{row_refused, row_shows}
 use Rattle.desk.proofs.exports.desk_row.Goals as goal
 use Rattle.desk.proofs.exports.desk_row.Goals.{In_default}
 

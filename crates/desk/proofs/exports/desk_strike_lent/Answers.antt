@@ -1,5 +1,5 @@
 -- `exports::desk_strike_lent` meets its contract: its answer stands for the session's.
-use Rattle.desk.specs.CallLaws.{strikes_told}
+use Rattle.desk.proofs.CallLaws.{strikes_told}
 use Rattle.desk.proofs.exports.desk_strike_lent.Goals as goal
 
 pub returns : goal.returns

@@ -1,6 +1,6 @@
 -- `exports::desk_sweep_lent` meets its contract: its answer stands for the session's, and what it leaves is the session
 -- afterwards.
-use Rattle.desk.specs.CallLaws.{sweeps_told}
+use Rattle.desk.proofs.CallLaws.{sweeps_told}
 use Rattle.desk.proofs.exports.desk_sweep_lent.Goals as goal
 
 pub returns : goal.returns

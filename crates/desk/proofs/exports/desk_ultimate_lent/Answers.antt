@@ -1,5 +1,5 @@
 -- `exports::desk_ultimate_lent` meets its contract: its answer stands for the session's.
-use Rattle.desk.specs.CallLaws.{projects_told}
+use Rattle.desk.proofs.CallLaws.{projects_told}
 use Rattle.desk.proofs.exports.desk_ultimate_lent.Goals as goal
 
 pub returns : goal.returns

@@ -11,7 +11,7 @@ use Rattle.laws.proofs.Cells.{cell_below, cells_few}
 use Rattle.laws.proofs.Marks.{steps_phi, steps_psi}
 use Rattle.observations.specs.Arrays.{observations_at}
 use Rattle.differences.specs.Differences.{log_at}
-use Rattle.differences.specs.DifferenceLaws.{first_is, paid_is, incurred_is}
+use Rattle.differences.proofs.DifferenceLaws.{first_is, paid_is, incurred_is}
 use Rattle.differences.proofs.own.observation.Goals as goal
 use Rattle.differences.proofs.own.observation.Goals.{After-cells_of, Start}
 

@@ -10,7 +10,7 @@ use Rattle.definitions.specs.Matrix.{part_by_index}
 use Rattle.observations.specs.declared.Observations.{Observations}
 use Rattle.observations.specs.Arrays.{observations_at}
 use Rattle.differences.specs.Differences.{left_in, prior_weight_of, prior_mean_of}
-use Rattle.differences.specs.DifferenceLaws.{prior_weight_is, prior_mean_is, prior_mean_small}
+use Rattle.differences.proofs.DifferenceLaws.{prior_weight_is, prior_mean_is, prior_mean_small}
 use Rattle.differences.proofs.own.prior_missed.Goals as goal
 use Rattle.differences.proofs.own.prior_missed.Goals.{After-struct_told-1}
 

@@ -7,7 +7,7 @@ use mir.Syntax.{w64}
 use Rattle.integers.specs.Bits.{stored, same}
 use Rattle.integers.specs.Size.{nat_abs--, fits, kept}
 use Rattle.definitions.specs.Words.{part}
-use Rattle.observations.specs.InsideLaws.{log_small}
+use Rattle.observations.proofs.InsideLaws.{log_small}
 use Rattle.differences.specs.Differences.{log_at}
 use Rattle.differences.proofs.own.step_at.Goals as goal
 use Rattle.differences.proofs.own.step_at.Goals.{After-struct_told-2-1}

@@ -21,7 +21,7 @@ use Rattle.observations.specs.declared.Observations.{Observations}
 use Rattle.observations.specs.Arrays.{observations_at}
 use Rattle.observations.specs.Arrays as Arrays
 use Rattle.differences.specs.Differences.{left_in, weight_of, observation_of, step_term}
-use Rattle.differences.specs.DifferenceLaws.{step_weight_is, step_weight_small, observation_small, steps_small, step_year}
+use Rattle.differences.proofs.DifferenceLaws.{step_weight_is, step_weight_small, observation_small, steps_small, step_year}
 use Rattle.differences.proofs.own.steps_missed.Invariants.{term}
 use Rattle.differences.proofs.own.steps_missed.Goals as goal
 use Rattle.differences.proofs.own.steps_missed.Goals.{After-step_weight, After-weighed-total, In-loop-i}

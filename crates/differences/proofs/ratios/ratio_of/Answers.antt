@@ -10,7 +10,7 @@ use Rattle.integers.specs.Bits.{stored, read}
 use Rattle.integers.specs.Size.{nat_abs--, fits, kept}
 use Rattle.integers.specs.Sum.{sum, sum_zero, sum_next}
 use Rattle.definitions.specs.Words.{part}
-use Rattle.differences.specs.DifferenceLaws.{ratio_small}
+use Rattle.differences.proofs.DifferenceLaws.{ratio_small}
 use Rattle.differences.proofs.ratios.ratio_of.Invariants.{difference}
 use Rattle.differences.proofs.ratios.ratio_of.Goals as goal
 use Rattle.differences.proofs.ratios.ratio_of.Goals.{In-loop-n}

@@ -20,7 +20,7 @@ use Rattle.observations.specs.declared.Observations.{Observations}
 use Rattle.observations.specs.Arrays.{observations_at}
 use Rattle.observations.specs.Arrays as Arrays
 use Rattle.differences.specs.Differences.{left_in, log_at, ratio_term}
-use Rattle.differences.specs.DifferenceLaws.{ratio_weight_is, last_ratio_is, last_ratio_small, ratio_small, ratio_is, ratios_small}
+use Rattle.differences.proofs.DifferenceLaws.{ratio_weight_is, last_ratio_is, last_ratio_small, ratio_small, ratio_is, ratios_small}
 use Rattle.differences.proofs.ratios.ratios_missed.Goals as goal
 use Rattle.differences.proofs.ratios.ratios_missed.Goals.{After-struct_told-in-loop-d-1, After-weighed-total, In-loop-d}
 

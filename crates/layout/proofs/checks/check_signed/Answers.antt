@@ -10,7 +10,7 @@ use mir.Facts.{to_z-of_z}
 use Rattle.definitions.specs.Layout.{signed}
 use Rattle.layout.specs.Checks.{signed_run}
 use Rattle.fields.specs.Fields.{signed_read, signed_outside}
-use Rattle.layout.specs.PartLimits.{part_yes, part_low, part_high}
+use Rattle.layout.proofs.PartLimits.{part_yes, part_low, part_high}
 use Rattle.layout.specs.CheckLaws.{left_start, left_none, left_next, left_bad}
 use Rattle.layout.proofs.checks.check_signed.Invariants.{place, good}
 use Rattle.layout.proofs.checks.check_signed.Goals as goal

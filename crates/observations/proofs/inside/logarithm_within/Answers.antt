@@ -3,7 +3,7 @@ use mathlib.Core.Path.{sym, ap, ◌∙◌}
 use lib.IntN.{pos}
 use lib.Signed.{lt_z}
 use mir.Facts.{to_z-of_z}
-use Rattle.observations.specs.InsideLaws.{log_below, log_above, log_inside}
+use Rattle.observations.proofs.InsideLaws.{log_below, log_above, log_inside}
 use Rattle.observations.proofs.inside.logarithm_within.Goals as goal
 
 pub returns-then-z-lt0 : goal.returns-then-z-lt0

@@ -3,7 +3,7 @@ use mathlib.Core.Path.{ap₂, ◌∙◌}
 use native.Mathlib.Omega.{arith}
 use Rattle.laws.proofs.Filled.{filled_none, filled_next, filled_to}
 use Rattle.observations.specs.Arrays.{at, brought_within}
-use Rattle.observations.specs.InsideLaws.{least_to_most}
+use Rattle.observations.proofs.InsideLaws.{least_to_most}
 use Rattle.observations.proofs.inside.weights_inside.Goals as goal
 
 pub loop-c-init : goal.loop-c-init

@@ -8,7 +8,7 @@ use Rattle.definitions.specs.Layout.{last_year}
 use Rattle.definitions.specs.Logarithm.{logarithm}
 use Rattle.laws.proofs.Cells.{cells_few}
 use Rattle.integers.specs.Bits.{stored, same}
-use Rattle.observations.specs.ReadLaws.{cells_four}
+use Rattle.observations.proofs.ReadLaws.{cells_four}
 use Rattle.observations.proofs.logarithms.four_cells.Goals as goal
 use Rattle.observations.proofs.logarithms.four_cells.Goals.{After-struct_told-4-1}
 

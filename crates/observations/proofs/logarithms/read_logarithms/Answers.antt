@@ -7,7 +7,7 @@ use Rattle.definitions.specs.Layout.{last_year, cells}
 use Rattle.definitions.specs.Logarithm.{logarithm}
 use Rattle.laws.proofs.Cells.{cells_few}
 use Rattle.integers.specs.Bits.{same}
-use Rattle.observations.specs.ReadLaws.{cells_none, cells_next, cells_to}
+use Rattle.observations.proofs.ReadLaws.{cells_none, cells_next, cells_to}
 use Rattle.observations.proofs.logarithms.read_logarithms.Goals as goal
 use Rattle.observations.proofs.logarithms.read_logarithms.Goals.{After-cells_of-count, In-loop-c-2}
 

@@ -2,7 +2,7 @@
 use mathlib.Core.Path.{ap, ◌∙◌}
 use Rattle.integers.specs.Bits.{same}
 use Rattle.definitions.specs.Weight.{weight}
-use Rattle.observations.specs.ReadLaws.{parts_next}
+use Rattle.observations.proofs.ReadLaws.{parts_next}
 use Rattle.observations.proofs.parts.read_part.Goals as goal
 
 pub returns : goal.returns

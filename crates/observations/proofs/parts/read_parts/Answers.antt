@@ -1,6 +1,6 @@
 -- `observations::parts::read_parts` meets its contract. The loop's invariant: the parts passed are read.
 use native.Mathlib.Omega.{arith}
-use Rattle.observations.specs.ReadLaws.{parts_none, parts_to}
+use Rattle.observations.proofs.ReadLaws.{parts_none, parts_to}
 use Rattle.observations.proofs.parts.read_parts.Goals as goal
 
 pub loop-k-init : goal.loop-k-init

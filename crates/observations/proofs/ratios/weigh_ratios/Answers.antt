@@ -7,7 +7,7 @@ use native.Mathlib.Omega.{arith}
 use Rattle.definitions.specs.Weight.{weight}
 use Rattle.observations.specs.Arrays.{at}
 use Rattle.observations.specs.Ratios.{ratio_from, WeighedFrom}
-use Rattle.observations.specs.RatioLaws.{ratio_from_next, ratio_from_last, ratio_from_small, weighed_none, weighed_next}
+use Rattle.observations.proofs.RatioLaws.{ratio_from_next, ratio_from_last, ratio_from_small, weighed_none, weighed_next}
 use Rattle.observations.proofs.ratios.weigh_ratios.Goals as goal
 use Rattle.observations.proofs.ratios.weigh_ratios.Goals.{In-loop-k}
 

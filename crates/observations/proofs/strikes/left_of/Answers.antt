@@ -4,7 +4,7 @@ use mathlib.Core.Path.{◌≡◌, sym, ap, ◌∙◌}
 use native.Mathlib.Omega.{arith}
 use Rattle.integers.specs.Total.{total_zero}
 use Rattle.observations.specs.Arrays.{unmarked}
-use Rattle.observations.specs.StrikeLaws.{unmarked_next, unmarked_few}
+use Rattle.observations.proofs.StrikeLaws.{unmarked_next, unmarked_few}
 use Rattle.observations.proofs.strikes.left_of.Goals as goal
 use Rattle.observations.proofs.strikes.left_of.Goals.{After-left-count, In-loop-i}
 

@@ -4,7 +4,7 @@ use mathlib.Core.Path.{◌≡◌, ap, ap₂}
 use native.Mathlib.Omega.{arith}
 use Rattle.definitions.specs.Layout.{cells, row_start}
 use Rattle.projecting.specs.Central.{OfSide, SideOf}
-use Rattle.projecting.specs.CentralLaws.{side_at, paid_asked, incurred_asked, sides_asked, central_of}
+use Rattle.projecting.proofs.CentralLaws.{side_at, paid_asked, incurred_asked, sides_asked, central_of}
 use Rattle.projecting.proofs.central.central_ultimate.Goals as goal
 use Rattle.projecting.proofs.central.central_ultimate.Goals.{After-cells_of, After-row_start, After-side_of-incurred}
 

@@ -11,7 +11,7 @@ use Rattle.integers.specs.Size.{fits, kept}
 use Rattle.integers.specs.Sum.{sum_zero, sum_next}
 use Rattle.definitions.specs.Words.{part}
 use Rattle.projecting.specs.Central.{parts_from}
-use Rattle.projecting.specs.CentralLaws.{parts_small}
+use Rattle.projecting.proofs.CentralLaws.{parts_small}
 use Rattle.projecting.proofs.central.part_sum.Goals as goal
 use Rattle.projecting.proofs.central.part_sum.Goals.{In-loop-m}
 

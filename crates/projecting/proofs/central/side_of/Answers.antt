@@ -9,7 +9,7 @@ use Rattle.integers.specs.Size.{fits, kept}
 use Rattle.definitions.specs.Words.{part}
 use Rattle.observations.specs.Arrays.{log_within}
 use Rattle.projecting.specs.Central.{parts_from}
-use Rattle.projecting.specs.CentralLaws.{side_small}
+use Rattle.projecting.proofs.CentralLaws.{side_small}
 use Rattle.projecting.proofs.central.side_of.Goals as goal
 use Rattle.projecting.proofs.central.side_of.Goals.{After-struct_told-2-1}
 

@@ -4,7 +4,7 @@ use mathlib.Core.Path.{◌≡◌, sym, ap, ap₂, ◌∙◌}
 use native.Mathlib.Omega.{arith}
 use Rattle.integers.specs.Total.{total_zero, total_next}
 use Rattle.projecting.specs.Central.{variances_from}
-use Rattle.projecting.specs.CentralLaws.{variances_small}
+use Rattle.projecting.proofs.CentralLaws.{variances_small}
 use Rattle.projecting.proofs.central.variance_sum.Goals as goal
 use Rattle.projecting.proofs.central.variance_sum.Goals.{After-struct_known-1, In-loop-m}
 

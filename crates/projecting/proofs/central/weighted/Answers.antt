@@ -7,7 +7,7 @@ use Rattle.integers.specs.Bits.{stored, read, same}
 use Rattle.arithmetic.specs.declared.wide.Wide.{Wide}
 use Rattle.arithmetic.specs.Wide.{IsWide}
 use Rattle.projecting.specs.declared.central.Side.{Side}
-use Rattle.projecting.specs.CentralLaws.{sum_asked, division_asked, value_is}
+use Rattle.projecting.proofs.CentralLaws.{sum_asked, division_asked, value_is}
 use Rattle.projecting.proofs.central.weighted.Goals as goal
 use Rattle.projecting.proofs.central.weighted.Goals.{After-product-of_incurred}
 

@@ -3,7 +3,7 @@ use Rattle.definitions.specs.Layout.{parts}
 use Rattle.observations.specs.Inside.{WeightsInside}
 use Rattle.observations.specs.Means.{OfMeans}
 use Rattle.figures.specs.Gathered.{OfObservations}
-use Rattle.striking.specs.AnewLaws.{asks_figures, asks_means}
+use Rattle.striking.proofs.AnewLaws.{asks_figures, asks_means}
 use Rattle.striking.proofs.anew.made_anew.Goals as goal
 use Rattle.striking.proofs.anew.made_anew.Goals.{After-weights_inside-weighed}
 

@@ -11,7 +11,7 @@ use Rattle.definitions.specs.Kept.{steps_of, part_of_step}
 use Rattle.laws.proofs.Marks.{steps_few}
 use Rattle.observations.specs.Arrays.{at, unmarked}
 use Rattle.striking.specs.Steps.{OfStep, mark_of}
-use Rattle.striking.specs.StepLaws.{placed, mark_inside, left_counted, no_channel, no_step, struck_already, last_left, may_strike}
+use Rattle.striking.proofs.StepLaws.{placed, mark_inside, left_counted, no_channel, no_step, struck_already, last_left, may_strike}
 use Rattle.striking.proofs.steps.check_step.Goals as goal
 use Rattle.striking.proofs.steps.check_step.Goals.{After-left_of, After-part_of-k, After-place_of, Else-channel-gt1, Else-not-is_step}
 

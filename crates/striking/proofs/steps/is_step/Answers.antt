@@ -1,7 +1,7 @@
 -- `striking::steps::is_step` meets its contract: what is left of the years is compared, so that no sum can wrap.
 use mathlib.Core.Path.{sym}
 use native.Mathlib.Omega.{arith}
-use Rattle.striking.specs.StepLaws.{step_late, step_x, step_z}
+use Rattle.striking.proofs.StepLaws.{step_late, step_x, step_z}
 use Rattle.striking.proofs.steps.is_step.Goals as goal
 
 pub returns-then-years-year : goal.returns-then-years-year

@@ -2,7 +2,7 @@
 use mathlib.Core.Path.{refl}
 use borrow.Author.Tests.{eq-eqb, ne_eqb}
 use native.Mathlib.Omega.{arith}
-use Rattle.striking.specs.StepLaws.{placed}
+use Rattle.striking.proofs.StepLaws.{placed}
 use Rattle.striking.proofs.steps.part_of.Goals as goal
 
 pub overflow_add-result-else-channel-eq0 : goal.overflow_add-result-else-channel-eq0

@@ -2,7 +2,7 @@
 use Prim.Native.Nat.{◌+◌, ◌*◌}
 use mathlib.Core.Path.{ap}
 use native.Mathlib.Omega.{arith}
-use Rattle.striking.specs.StepLaws.{mark_inside}
+use Rattle.striking.proofs.StepLaws.{mark_inside}
 use Rattle.striking.proofs.steps.place_of.Goals as goal
 
 pub overflow_mul-result : goal.overflow_mul-result

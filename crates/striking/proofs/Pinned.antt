@@ -14,7 +14,7 @@ use Rattle.laws.proofs.MachineLaws.{outcome_alike, session_alike}
 use Rattle.laws.proofs.StruckSteps.{strikable, strike_leaves}
 use Rattle.observations.specs.declared.Observations.{Observations}
 use Rattle.holding.specs.State.{Held, session_state, HoldsFile}
-use Rattle.holding.specs.StateLaws.{held_of_session}
+use Rattle.holding.proofs.StateLaws.{held_of_session}
 use Rattle.striking.specs.declared.StrikeAnswer.TheVariants.{Struck, Refused}
 use Rattle.striking.specs.Strikes.{strikes_to, Strikes}
 

@@ -23,7 +23,7 @@ use Rattle.observations.specs.declared.Observations.{Observations}
 use Rattle.observations.specs.Arrays.{at, mean_at, prior_at, ratio_at, mark_at, brought_within, log_within, observations_at, observed_in}
 use Rattle.observations.specs.HoldsChain.{chain_at}
 use Rattle.observations.specs.Inside.{TicksInside, least_weight, most_weight, WeightsInside}
-use Rattle.observations.specs.InsideLaws.{log_small}
+use Rattle.observations.proofs.InsideLaws.{log_small}
 
 -- ---- a logarithm that is inside
 

@@ -25,15 +25,15 @@ use Rattle.laws.proofs.StruckFiles.{struck_chain}
 use Rattle.laws.proofs.Tables.{tab_at}
 use Rattle.layout.specs.CheckLaws.{then_clear}
 use Rattle.observations.specs.declared.Observations.{Observations}
-use Rattle.records.specs.MeanOfRecord.{part_small}
+use Rattle.records.proofs.MeanOfRecord.{part_small}
 use Rattle.chain.specs.Arrays.{figures_of}
 use Rattle.differences.specs.Differences.{left_in}
 use Rattle.holding.specs.State.{Held, Fits, session_state}
-use Rattle.holding.specs.StateLaws.{state_of_held, state_of_empty}
+use Rattle.holding.proofs.StateLaws.{state_of_held, state_of_empty}
 use Rattle.writing.specs.declared.WriteAnswer.{WriteAnswer}
 use Rattle.writing.specs.declared.WriteAnswer.TheVariants.{Written, Refused}
 use Rattle.writing.specs.Writes.{of_write}
-use Rattle.writing.specs.WriteLaws.{refused_written}
+use Rattle.writing.proofs.WriteLaws.{refused_written}
 use Rattle.weighing.specs.Weighs.{weighs_to, Weighs}
 
 -- of a file, with the steps that are struck: written only where the record is not refused, and then in front of the buffer

@@ -14,7 +14,7 @@ use Rattle.holding.specs.State.{Held, state_of, HoldsFile}
 use Rattle.showing.specs.declared.FiguresAnswer.TheVariants.{Shown, Refused}
 use Rattle.showing.specs.declared.Showing.{Showing}
 use Rattle.showing.specs.Shows.{shows_to, Shows}
-use Rattle.showing.specs.ShowLaws.{entry_at}
+use Rattle.showing.proofs.ShowLaws.{entry_at}
 
 module _ (s : Held) (r : Showing) (call : Shows s r) where
   pub none_shown : state_of s ≡ empty

@@ -17,16 +17,16 @@ use Rattle.observations.specs.declared.Observations.{Observations}
 use Rattle.observations.specs.Arrays.{observations_at}
 use Rattle.observations.specs.Reading.{Observes}
 use Rattle.observations.specs.Means.{OfMeans, PriorMeans}
-use Rattle.observations.specs.OfFile.{holds_chain, kept, none_kept}
+use Rattle.observations.proofs.OfFile.{holds_chain, kept, none_kept}
 use Rattle.chain.specs.declared.arrays.Figures.{Figures}
 use Rattle.chain.specs.Arrays.{figures_at, figures_of, mean_of}
 use Rattle.chain.specs.Fitting.{Fitting}
-use Rattle.chain.specs.AcceptedFits.{admitted_fits}
+use Rattle.chain.proofs.AcceptedFits.{admitted_fits}
 use Rattle.figures.specs.Gathered.{OfObservations, FiguresOf}
 use Rattle.holding.specs.State.{Held, Fits}
 use Rattle.opening.specs.declared.OpenAnswer.TheVariants.{Opened}
 use Rattle.opening.specs.Opens.{Opens}
-use Rattle.opening.specs.OpenLaws.{opens_done}
+use Rattle.opening.proofs.OpenLaws.{opens_done}
 
 pub file_accepted : (file : Bytes) → file_check file ≡ clear → AcceptedFile file
 file_accepted file passed = accepted_file file (ap is_clear passed)

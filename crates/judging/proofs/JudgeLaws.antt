@@ -12,8 +12,8 @@ use Rattle.definitions.specs.Strikes.{StruckFile, figures_left}
 use Rattle.definitions.specs.Machine.{Answer, judged, refused, holds, refused_or, judge_call}
 use Rattle.chain.specs.Arrays.{figures_of}
 use Rattle.holding.specs.State.{Held, Fits, state_of}
-use Rattle.holding.specs.StateLaws.{state_of_held, state_of_empty}
-use Rattle.holding.specs.Worth.{worth, rounded}
+use Rattle.holding.proofs.StateLaws.{state_of_held, state_of_empty}
+use Rattle.holding.proofs.Worth.{worth, rounded}
 use Rattle.judging.specs.declared.JudgeAnswer.{JudgeAnswer}
 use Rattle.judging.specs.declared.JudgeAnswer.TheVariants.{Passed, Fails, Refused}
 use Rattle.judging.specs.Judges.{of_judge, judges_to, Judges}

@@ -22,18 +22,18 @@ use Rattle.observations.specs.declared.Observations.{Observations}
 use Rattle.observations.specs.Arrays.{mean_at, mark_at, observations_at, observed_in, struck_in}
 use Rattle.observations.specs.Strikes.{LeftIn}
 use Rattle.observations.specs.Inside.{MarksInside}
-use Rattle.observations.specs.MarkLaws.{same_place, marked_at, kept_left, inside_at, mark_set, marks_kept}
-use Rattle.observations.specs.KeptLaws.{kept_bounded, kept_counted, tick_mean, holds_kept, kept_still}
+use Rattle.observations.proofs.MarkLaws.{same_place, marked_at, kept_left, inside_at, mark_set, marks_kept}
+use Rattle.observations.proofs.KeptLaws.{kept_bounded, kept_counted, tick_mean, holds_kept, kept_still}
 use Rattle.chain.specs.Arrays.{figures_at, figures_of, mean_of}
 use Rattle.chain.specs.Fitting.{Fitting}
-use Rattle.chain.specs.AcceptedFits.{chain_fits}
+use Rattle.chain.proofs.AcceptedFits.{chain_fits}
 use Rattle.holding.specs.State.{Held, Fits, held_at}
-use Rattle.holding.specs.StateLaws.{state_of_held, state_of_empty}
+use Rattle.holding.proofs.StateLaws.{state_of_held, state_of_empty}
 use Rattle.striking.specs.declared.StrikeAnswer.{StrikeAnswer}
 use Rattle.striking.specs.declared.StrikeAnswer.TheVariants.{Struck, Refused}
 use Rattle.striking.specs.Strikes.{Strikes}
 use Rattle.striking.specs.Steps.{OfStep, mark_of}
-use Rattle.striking.specs.StepLaws.{placed, mark_inside}
+use Rattle.striking.proofs.StepLaws.{placed, mark_inside}
 use Rattle.striking.specs.Anew.{Anew}
 
 struck_refused : {number place : ℕ} → ◌≡◌ {A = StrikeAnswer} Struck (Refused number place) → ⊥

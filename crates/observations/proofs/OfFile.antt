@@ -24,7 +24,7 @@ use Rattle.observations.specs.Arrays.{at, mark_at, unmarked, brought_within, log
 use Rattle.observations.specs.HoldsChain.{HoldsChain}
 use Rattle.observations.specs.Reading.{PartsTo, Parts, Observes}
 use Rattle.observations.specs.Ratios.{ratio_from, OfVariances, RatiosWeighed}
-use Rattle.observations.specs.RatioLaws.{ratio_from_cong}
+use Rattle.observations.proofs.RatioLaws.{ratio_from_cong}
 
 module _ (f : Bytes) (h : AcceptedFile f) where
   abbrev J : ℕ

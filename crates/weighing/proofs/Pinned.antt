@@ -13,7 +13,7 @@ use Rattle.definitions.specs.Kept.{Kept, kept_of, chain_kept}
 use Rattle.observations.specs.declared.Observations.{Observations}
 use Rattle.holding.specs.State.{Held, session_state}
 use Rattle.writing.specs.declared.WriteAnswer.TheVariants.{Written, Refused}
-use Rattle.writing.specs.WriteLaws.{refused_written}
+use Rattle.writing.proofs.WriteLaws.{refused_written}
 use Rattle.weighing.specs.Weighs.{weighs_to, Weighs}
 
 -- a state that answers a refusal has left the buffer

@@ -12,7 +12,7 @@ use Rattle.laws.proofs.StruckFiles.{admitted}
 use Rattle.laws.proofs.Number16.{open_with16, alike_without_16}
 use Rattle.observations.specs.declared.Observations.{Observations}
 use Rattle.holding.specs.State.{Held, state_of, kept_with, session_state, HoldsFile}
-use Rattle.holding.specs.StateLaws.{held_of_session}
+use Rattle.holding.proofs.StateLaws.{held_of_session}
 use Rattle.opening.specs.declared.OpenAnswer.{OpenAnswer}
 use Rattle.opening.specs.declared.OpenAnswer.TheVariants.{Opened, Refused}
 use Rattle.opening.specs.Opens.{of_open, opens_to, Opens}

@@ -11,7 +11,7 @@ use Rattle.definitions.specs.Kept.{Kept, chain_kept, in_session}
 use Rattle.laws.proofs.MachineLaws.{residues_alone}
 use Rattle.observations.specs.declared.Observations.{Observations}
 use Rattle.holding.specs.State.{Held, held_in, kept_with, session_state}
-use Rattle.holding.specs.SessionLaws.{judge_session, sweep_session, read_session, page_session, ultimate_session}
+use Rattle.holding.proofs.SessionLaws.{judge_session, sweep_session, read_session, page_session, ultimate_session}
 use Rattle.telling.specs.declared.Refusal.{Refusal}
 use Rattle.telling.specs.declared.Judged.{Judged}
 use Rattle.telling.specs.declared.Swept.{Swept}

@@ -14,8 +14,8 @@ use Rattle.layout.specs.declared.checks.Check.{Check}
 use Rattle.layout.specs.declared.checks.Check.TheVariants.{Refuses}
 use Rattle.chain.specs.Arrays.{figures_of, mean_of}
 use Rattle.holding.specs.State.{Held, Fits, state_held, state_of}
-use Rattle.holding.specs.StateLaws.{state_of_held, state_of_empty}
-use Rattle.holding.specs.Worth.{worth}
+use Rattle.holding.proofs.StateLaws.{state_of_held, state_of_empty}
+use Rattle.holding.proofs.Worth.{worth}
 use Rattle.holding.specs.Passing.{Passing, by_refusal}
 use Rattle.writing.specs.declared.WriteAnswer.{WriteAnswer}
 use Rattle.writing.specs.declared.WriteAnswer.TheVariants.{Written, Refused}

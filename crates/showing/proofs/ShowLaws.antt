@@ -15,7 +15,7 @@ use Rattle.laws.proofs.Accepted.{accepted_file}
 use Rattle.laws.proofs.Tables.{tab_at}
 use Rattle.chain.specs.Arrays.{figures_at, figures_of}
 use Rattle.holding.specs.State.{Held, Fits, dec_fits, state_of}
-use Rattle.holding.specs.StateLaws.{state_of_held, state_of_empty}
+use Rattle.holding.proofs.StateLaws.{state_of_held, state_of_empty}
 use Rattle.showing.specs.declared.FiguresAnswer.TheVariants.{Shown}
 use Rattle.showing.specs.declared.Showing.{Showing}
 use Rattle.showing.specs.Shows.{in_arrays, shows_to, FiguresOf, Shows}

@@ -8,8 +8,8 @@ use Rattle.laws.proofs.StepLaws.{bring_back_inside}
 use Rattle.observations.specs.declared.Observations.{Observations}
 use Rattle.observations.specs.Arrays.{mean_at, observations_at}
 use Rattle.observations.specs.Inside.{TicksInside, WeightsInside}
-use Rattle.observations.specs.InsideLaws.{log_small}
-use Rattle.observations.specs.KeptLaws.{tick_log, tick_mean, column_weight, prior_weight_lem, ratio_weight}
+use Rattle.observations.proofs.InsideLaws.{log_small}
+use Rattle.observations.proofs.KeptLaws.{tick_log, tick_mean, column_weight, prior_weight_lem, ratio_weight}
 use Rattle.observations.specs.Means.{OfMeans}
 use Rattle.figures.specs.Gathered.{OfObservations}
 

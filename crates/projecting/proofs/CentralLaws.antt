@@ -13,12 +13,12 @@ use Rattle.definitions.specs.Refusals.{part_limit}
 use Rattle.definitions.specs.Ultimate.{Latest, paid_variance, incurred_variance, paid_ultimate, incurred_ultimate, both_variances, ultimate_of}
 use Rattle.definitions.specs.Kept.{latest_in}
 use Rattle.laws.proofs.Cells.{cell_below, cells_few}
-use Rattle.observations.specs.InsideLaws.{log_small}
-use Rattle.observations.specs.KeptLaws.{log_at_lem, variance_at_lem}
+use Rattle.observations.proofs.InsideLaws.{log_small}
+use Rattle.observations.proofs.KeptLaws.{log_at_lem, variance_at_lem}
 use Rattle.laws.proofs.Ultimates.{ultimate_unique}
 use Rattle.arithmetic.specs.declared.wide.Wide.{Wide}
 use Rattle.arithmetic.specs.Wide.{IsWide, OfSum, OfDivision, value_of}
-use Rattle.arithmetic.specs.WideLaws.{high_at_most}
+use Rattle.arithmetic.proofs.WideLaws.{high_at_most}
 use Rattle.observations.specs.declared.Observations.{Observations}
 use Rattle.observations.specs.Arrays.{at, brought_within, log_within, observations_at, observed_in}
 use Rattle.projecting.specs.declared.Ultimate.{Ultimate}

@@ -30,8 +30,8 @@ use Rattle.laws.proofs.SameChains.{IsPart, is_part}
 use Rattle.laws.proofs.StruckChain.{left_bounded}
 use Rattle.observations.specs.declared.Observations.{Observations}
 use Rattle.observations.specs.Arrays.{at, mean_at, prior_at, ratio_at, brought_within, observed_in, struck_at, struck_in}
-use Rattle.observations.specs.KeptLaws.{weight_at, prior_at_lem, ratio_at_lem, mean_at_lem, paid_log, incurred_log, kept_bounded}
-use Rattle.observations.specs.MarkLaws.{marked_at}
+use Rattle.observations.proofs.KeptLaws.{weight_at, prior_at_lem, ratio_at_lem, mean_at_lem, paid_log, incurred_log, kept_bounded}
+use Rattle.observations.proofs.MarkLaws.{marked_at}
 use Rattle.differences.specs.Differences.{left_in, log_at, prior_weight_of, prior_mean_of, weight_of, observation_of, prior_term, step_term}
 use Rattle.differences.specs.Differences.{ratio_from, ratio_term}
 

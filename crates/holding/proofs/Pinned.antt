@@ -9,7 +9,7 @@ use Rattle.laws.proofs.StruckSteps.{each_left}
 use Rattle.laws.specs.ReachedStates.{after}
 use Rattle.chain.specs.Arrays.{figures_of, mean_of}
 use Rattle.holding.specs.State.{Held, state_of, HoldsFile}
-use Rattle.holding.specs.StateLaws.{state_of_held}
+use Rattle.holding.proofs.StateLaws.{state_of_held}
 use Rattle.holding.specs.Reached.{reached_fits, reached_admitted}
 
 module _ (s : Held) (f : StruckFile) (μ : List ℤ) (total : ℕ) where

@@ -11,7 +11,7 @@ use Rattle.observations.specs.declared.Observations.{Observations}
 use Rattle.observations.specs.Arrays.{observed_in, struck_in}
 use Rattle.chain.specs.Arrays.{figures_of, mean_of}
 use Rattle.holding.specs.State.{Held, Fits}
-use Rattle.holding.specs.StateLaws.{state_of_held, state_of_empty}
+use Rattle.holding.proofs.StateLaws.{state_of_held, state_of_empty}
 use Rattle.opening.specs.declared.OpenAnswer.{OpenAnswer}
 use Rattle.opening.specs.declared.OpenAnswer.TheVariants.{Opened, Refused}
 use Rattle.opening.specs.Opens.{Opens}

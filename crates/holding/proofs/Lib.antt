@@ -1,0 +1,4 @@
+pub mod StateLaws
+pub mod SessionLaws
+pub mod Worth
+pub mod Pinned

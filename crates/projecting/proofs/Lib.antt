@@ -1,0 +1,3 @@
+pub mod CentralLaws
+pub mod ProjectLaws
+pub mod Pinned

@@ -1,0 +1,4 @@
+pub mod StepLaws
+pub mod AnewLaws
+pub mod StrikeLaws
+pub mod Pinned

@@ -1,0 +1,2 @@
+pub mod WeighLaws
+pub mod Pinned
