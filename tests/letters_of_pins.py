@@ -65,7 +65,7 @@ SAID = {
         "pub struck_step : refusal_told struck_out ≡ refusal 0 0 pub",
     ),
     "desk/PinnedUltimate": (
-        "| abbrev refused_with : ℕ → Projected | refused_with number = record { refusal = record { number = number; place = 0 }; floor "
+        "| abbrev pub refused_with : ℕ → Projected | refused_with number = record { refusal = record { number = number; place = 0 }; floor "
         "= pos 0; remainder = 0; divisor = 0 } |",
         "pub ultimate_told_lem : r ≡ ultimate_told (projects_to o (state_of s) year) ultimate_told_lem",
         "pub ultimate_numbered : (place : ℕ) → projects_to o (state_of s) year ≢ refused 0 place ultimate_numbered",
@@ -252,7 +252,7 @@ SAID = {
         "(step channel k j) ≡ false → (r ≡ refusal 0) × (session_state p t ≡ holds (kept_of without_it) start 0) unfolding",
         "pub incurred_struck : channel ≡ 1 → i + j < J → is_struck f (step channel i j) ≡ false → (k : ℕ) → i ≢ k → k + j < J → "
         "is_struck f (step channel k j) ≡ false → (r ≡ refusal 0) × (session_state p t ≡ holds (kept_of without_it) start 0) unfolding",
-        "| abbrev refusal : ℕ → Refusal | refusal number = record { number = number; place = 0 }",
+        "| abbrev pub refusal : ℕ → Refusal | refusal number = record { number = number; place = 0 }",
         "abbrev J : ℕ J = last_year f.file abbrev without_it : StruckFile without_it = record { file = f.file; struck = step channel i "
         "j ∷ f.struck } abbrev start : List ℤ start = tab_from 0 (parts (last_year f.file)) (prior_mean f.file)",
     ),
@@ -283,7 +283,7 @@ SAID = {
         "(part (mean_of (last_year f.file) r)) k residues_written f",
     ),
     "desk/PinnedResidues": (
-        "| abbrev refusal : ℕ → ℕ → Refusal | refusal number place = record { number = number; place = place } | module",
+        "| abbrev pub refusal : ℕ → ℕ → Refusal | refusal number place = record { number = number; place = place } | |",
         "pub residues_told : (r ≡ refusal_told (weighs_to (session_state o s) lent before).answer) × (after ≡ (weighs_to (session_state "
         "o s) lent before).buffer) residues_told =",
         "pub residues_numbered : (place : ℕ) → (weighs_to (session_state o s) lent before).answer ≢ refused 0 place residues_numbered =",

@@ -134,22 +134,22 @@ PINNED = {
         "right_hand_of_file ) )",
     "session/Pinned": "held_whole",
     "telling/Pinned":
-        "Pinned opened_file refused_file written_mean struck_step passed_mean failing_mean refused_record settled_mean going_mean "
+        "refusal Pinned opened_file refused_file written_mean struck_step passed_mean failing_mean refused_record settled_mean going_mean "
         "refused_sweeps central_ultimate refused_ultimate shown_row row_of_F refused_row shown_system refused_system pinned",
     "desk/Pinned":
-        "( ( open_told open_state open_refused open_numbered ) ( sweep_told_lem sweep_state sweep_refused sweep_numbered ) closed ) ( ( "
+        "refusal ( ( open_told open_state open_refused open_numbered ) ( sweep_told_lem sweep_state sweep_refused sweep_numbered ) closed ) ( ( "
         "judge_told_lem judge_numbered ) ( write_told write_buffer write_numbered ) page_closed ( read_record page_written page_short ) ) "
         "( none_shown figures_numbered ( shown_numbers shown_own shown_entry shown_right_hand ) ( numbers_of_file own_of_file "
         "entry_of_file right_hand_of_file ) ) ( row_told row_shows row_inside row_empty row_numbered ) ( ( judge_worth judge_rounded ) "
         "( sweep_worth sweep_rounded ) write_worth )",
     "desk/PinnedSession": "( opens_all strikes_all judges_all sweeps_all reads_all pages_all projects_all weighs_all closes_all )",
     "desk/PinnedResidues":
-        "( residues_told residues_numbered residues_closed ( residues_refused residues_short residues_written ) residues_of_file )",
+        "refusal ( residues_told residues_numbered residues_closed ( residues_refused residues_short residues_written ) residues_of_file )",
     "desk/PinnedUltimate":
-        "( ultimate_told_lem ultimate_numbered ultimate_closed ( ultimate_failing ultimate_year_0 ultimate_behind ultimate_exact ) "
+        "refused_with ( ultimate_told_lem ultimate_numbered ultimate_closed ( ultimate_failing ultimate_year_0 ultimate_behind ultimate_exact ) "
         "ultimate_worth ( ultimate_of_file ) )",
     "desk/PinnedStrikes":
-        "( strike_told strike_numbered strike_state strike_refused strike_closed ( no_channel no_paid_step no_incurred_step "
+        "refusal ( strike_told strike_numbered strike_state strike_refused strike_closed ( no_channel no_paid_step no_incurred_step "
         "struck_already last_left paid_struck incurred_struck ) )",
 }
 

@@ -198,7 +198,9 @@ class Symbols(unittest.TestCase):
             brought = dict(imported(name))
             local = local_to(name)
             for word in words_of(name) & signs.keys() - local:
-                self.assertIn(brought.get(signs[word]), modules[signs[word]], f"{name}: {word}")
+                module = brought.get(signs[word], "")
+                handed_on = all(map(HANDING_ON.fullmatch, {module, *modules[signs[word]]}))
+                self.assertTrue(handed_on or module in modules[signs[word]], f"{name}: {word} of {module}")
             self.assertLessEqual(bound_in(name) & modules.keys(), local, name)
 
     def test_names_of_the_definitions(self) -> None:

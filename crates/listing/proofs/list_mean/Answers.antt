@@ -31,7 +31,11 @@ returns-in-Refused c = absurd ((read_whole (goal.at.returns-in-Refused c).After-
 
 pub put_parts-end-requires : goal.put_parts-end-requires
 put_parts-end-requires c =
-    record { on = c.put_count-counted.ensures.counted.0; years = omega (arith, c.last_year-last.ensures, years (goal.at.put_parts-end-requires c).After-read-answer) }
+    record {
+      on = c.put_count-counted.ensures.counted.0;
+      years =
+          omega (arith, c.last_year-last.ensures, years (goal.at.put_parts-end-requires c).After-read-answer);
+    }
 
 pub returns : goal.returns
 unfolding ascii tab_from

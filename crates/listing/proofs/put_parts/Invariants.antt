@@ -9,7 +9,8 @@ use Rattle.listing.proofs.put_parts.Given as goal
 
 abbrev pub invariant-loop-k : goal.invariant-loop-k
 invariant-loop-k l =
-    (length l.page ≡ length l.initial.page) × (l.k ≤ l.count) × Added l.initial.page l.at (lines (λ i. part_line (part_by_index l.last i) (signed (part_at i) l.record)) l.k) l.page l.end
+    (length l.page ≡ length l.initial.page) × (l.k ≤ l.count)
+    × Added l.initial.page l.at (lines (λ i. part_line (part_by_index l.last i) (signed (part_at i) l.record)) l.k) l.page l.end
 
 abbrev pub decreases-loop-k : goal.decreases-loop-k
 decreases-loop-k l = l.count - l.k
