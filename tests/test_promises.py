@@ -137,7 +137,8 @@ PINNED = {
         "refusal Pinned opened_file refused_file written_mean struck_step passed_mean failing_mean refused_record settled_mean going_mean "
         "refused_sweeps central_ultimate refused_ultimate shown_row row_of_F refused_row shown_system refused_system pinned",
     "desk/Pinned":
-        "refusal ( ( open_told open_state open_refused open_numbered ) ( sweep_told_lem sweep_state sweep_refused sweep_numbered ) closed ) ( ( "
+        "refusal ( ( open_told open_state open_refused open_numbered ) ( sweep_told_lem sweep_state sweep_refused sweep_numbered ) "
+        "closed ) ( ( "
         "judge_told_lem judge_numbered ) ( write_told write_buffer write_numbered ) page_closed ( read_record page_written page_short ) ) "
         "( none_shown figures_numbered ( shown_numbers shown_own shown_entry shown_right_hand ) ( numbers_of_file own_of_file "
         "entry_of_file right_hand_of_file ) ) ( row_told row_shows row_inside row_empty row_numbered ) ( ( judge_worth judge_rounded ) "
