@@ -50,10 +50,10 @@ class Made(unittest.TestCase):
         self.assertGreater(own, 3_000)
 
     def test_residues(self) -> None:
-        """In the script of scenes those of F and of drawn sessions; besides, scripts of their own, and such as end in a call."""
-        printed = self.made["calls/scenes"].printed.decode()
+        """Those of F and of drawn sessions in scripts of their own, and scripts that end in such a call."""
+        printed = self.made["script/residues-of-document"].printed.decode()
         self.assertIn("residues\nbuffer 0000000000020001" + "0" * 32 + "\n", printed)
-        self.assertGreater(printed.count("residues\n"), 50)
+        self.assertGreater(printed.count("residues\n"), 8)
         scripts = {name: vector for name, vector in self.made.items() if name.startswith("script/residues-")}
         self.assertGreater(sum(vector.printed.count(b"residues\n") for vector in scripts.values()), 150)
         longest = scripts["script/residues-4096"].printed.split()[-1]

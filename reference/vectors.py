@@ -24,6 +24,7 @@ import vectors_ultimate
 from board_page import board_page
 from listing import listing
 from vectors_board_page import OF_THE_LISTING, board_page_inputs
+from vectors_drawn import drawn_session
 
 DEFAULT_SEED = 1
 ROOT = Path(__file__).resolve().parent.parent
@@ -77,7 +78,7 @@ def make_random(seed: int, count: int) -> Vectors:
     return {
         **_printed("listing", files),
         **_printed("board_page", files),
-        **_scripts("calls", {number: b"".join(vectors_calls.drawn_session(rng, samples.drawn_any_file)) for number in numbers}),
+        **_scripts("calls", {number: b"".join(drawn_session(rng, samples.drawn_any_file, residues=True)) for number in numbers}),
     }
 
 

@@ -11,7 +11,6 @@ import samples
 import session
 import vectors_amounts
 import vectors_flat_priors
-import vectors_residues
 import vectors_strikes
 from call_bytes import (
     CLOSE, FIGURES, LARGEST_NUMBER, call_judge, call_open, call_page, call_read, call_residues, call_row, call_strike, call_sweep,
@@ -36,7 +35,7 @@ LOGARITHMS_OF = (
 )
 
 
-def script_of_scenes(seed: int, drawn_sessions: int = 56) -> bytes:
+def script_of_scenes(seed: int, drawn_sessions: int = 60) -> bytes:
     rng, flat, yen = (Random(f"calls {seed}"), Random(f"calls without priors {seed}"), Random(f"calls in yen {seed}"))
     scenes: list[Iterable[bytes]] = [
         figures_of_document(),
@@ -52,8 +51,7 @@ def script_of_scenes(seed: int, drawn_sessions: int = 56) -> bytes:
         added_up(samples.many_sweeps(), range(1, 20)),
         *(halves(offset) for offset in (1, -1)),
         *(figures_shown(samples.drawn_file(rng, last)) for last in range(1, LARGEST_YEAR + 1)),
-        *(every_row(build_file(samples.drawn_file(rng, last))) for last in (1, 2, 3)),
-        rows(build_file(samples.drawn_file(rng, LARGEST_YEAR)), (0, 1, LARGEST_YEAR, LARGEST_YEAR + 1)),
+        *(every_row(build_file(samples.drawn_file(rng, last))) for last in (1, 2, 3, 9, LARGEST_YEAR)),
         row_refusals(),
         *(settle_and_read(rng, samples.drawn_file(rng, last)) for last in range(1, LARGEST_YEAR + 1)),
         *(pages(file) for file in page_files().values()),
@@ -67,7 +65,6 @@ def script_of_scenes(seed: int, drawn_sessions: int = 56) -> bytes:
         *(from_the_prior(file) for file in vectors_amounts.accepted_files().values()),
         *(drawn_session(yen, samples.drawn_yen_file) for _ in range(drawn_sessions // 10)),
         vectors_strikes.of_document(),
-        vectors_residues.of_document(),
     ]
     return b"".join(call for scene in scenes for call in scene)
 
@@ -233,12 +230,8 @@ def figures_shown(file: File) -> Iterator[bytes]:
 
 
 def every_row(lent: bytes) -> Iterator[bytes]:
-    return rows(lent, range(lent[5] + 2))
-
-
-def rows(lent: bytes, years: Iterable[int]) -> Iterator[bytes]:
-    """Some of a long file, of which `every_cell` has each."""
-    yield from (call_row(lent, channel, year) for channel in (0, 1) for year in years)
+    last = lent[5]
+    yield from (call_row(lent, channel, year) for channel in (0, 1) for year in range(last + 2))
 
 
 def row_refusals() -> Iterator[bytes]:

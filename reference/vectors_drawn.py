@@ -17,9 +17,9 @@ from residues import residues_length
 from strikes import NONE, Step, Steps, steps_of
 
 
-def drawn_session(rng: Random, draw: Callable[[Random, int], File] = samples.drawn_file) -> Iterator[bytes]:
+def drawn_session(rng: Random, draw: Callable[[Random, int], File] = samples.drawn_file, *, residues: bool = False) -> Iterator[bytes]:
     """Some dozens of calls, mostly on one file of few years, now and then on a longer one."""
-    drawn = Drawn(rng, draw(rng, rng.choice((1, 1, 2, 2, 3, 4, 6, rng.randint(1, LARGEST_YEAR)))))
+    drawn = Drawn(rng, draw(rng, rng.choice((1, 1, 2, 2, 3, 4, 6, rng.randint(1, LARGEST_YEAR)))), residues=residues)
     drawn.hold(NONE)
     if rng.randrange(4):
         yield call_open(build_file(drawn.file))
@@ -36,13 +36,16 @@ class Drawn:
     file: File
     struck: Steps = NONE
     mean: tuple[int, ...] = ()
+    residues: bool = False  # whether some of the calls ask for them
 
     def hold(self, struck: Steps) -> None:
         self.struck, self.mean = struck, swept(self.file, session.MOST_SWEEPS, struck)
 
     def call(self) -> bytes:
         rng, last, lent = self.rng, self.file.last, build_file(self.file)
-        match rng.choices("ojsrpukdfwc", (2, 12, 12, 8, 4, 5, 6, 6, 1, 2, 6))[0]:
+        often = {"o": 2, "j": 12, "s": 12, "r": 8, "p": 4, "u": 5, "k": 6, "d": 6, "f": 1, "w": 2, "c": 6}
+        letters = [letter for letter in often if letter != "d" or self.residues]
+        match rng.choices(letters, [often[letter] for letter in letters])[0]:
             case "o":
                 return call_open(lent)
             case "j":

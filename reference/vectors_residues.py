@@ -28,6 +28,7 @@ Mean = tuple[int, ...]
 
 def scripts() -> dict[str, bytes]:
     scenes: dict[str, Iterable[Iterator[bytes]]] = {
+        "residues-of-document": (of_document(),),
         "residues-years": (around_its_size(settling(last)) for last in range(1, LARGEST_YEAR + 1)),
         "residues-zero": (agreed(last) for last in (1, 2, 3, LARGEST_YEAR)),
         "residues-greatest": at_the_limits(),

@@ -135,7 +135,7 @@ def all_complaints(folder: Path, seed: int, count: int) -> Iterator[str]:
             for size in (1, 7, 2_806):
                 yield from complaints_in_pieces(folder, made, f"{program}/{name}", size)
     rng = Random(f"pipe {seed}")
-    for calls in (vectors_calls.figures_of_document(), *(vectors_drawn.drawn_session(rng) for _ in range(3))):
+    for calls in (vectors_calls.figures_of_document(), *(vectors_drawn.drawn_session(rng, residues=True) for _ in range(3))):
         yield from complaints_of_a_session(folder, list(calls))
 
 

@@ -147,7 +147,8 @@ PINNED = {
     "desk/PinnedResidues":
         "refusal ( residues_told residues_numbered residues_closed ( residues_refused residues_short residues_written ) residues_of_file )",
     "desk/PinnedUltimate":
-        "refused_with ( ultimate_told_lem ultimate_numbered ultimate_closed ( ultimate_failing ultimate_year_0 ultimate_behind ultimate_exact ) "
+        "refused_with ( ultimate_told_lem ultimate_numbered ultimate_closed ( ultimate_failing ultimate_year_0 ultimate_behind "
+        "ultimate_exact ) "
         "ultimate_worth ( ultimate_of_file ) )",
     "desk/PinnedStrikes":
         "refusal ( strike_told strike_numbered strike_state strike_refused strike_closed ( no_channel no_paid_step no_incurred_step "
