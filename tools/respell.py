@@ -4,8 +4,7 @@
 usage: python3 tools/respell.py [--list]
 
 Run once at the top of the repository, after /opt/rattle/port/port.py. A name that a file of specs/ or proofs/ declares (the answers of a
-function's own proof aside, which Rattle names) turns in all of them, in the clauses, ghost items and comments of src/, and in what else
-is named on the command line behind --also. A capital inside a word becomes an underscore and a small letter, and so does a dash between
+function's own proof aside, which Rattle names) turns in all of them, and in the clauses, ghost items and comments of src/. A capital inside a word becomes an underscore and a small letter, and so does a dash between
 two words. Types and modules keep their spelling, a dash beside a symbol stays, since it joins two names, and so does whatever the kit
 declares. A lemma that would meet a definition's name ends in `_lem`, as in the kit. --list prints the table and writes nothing.
 """
@@ -145,6 +144,10 @@ def turn_source(text, turned):
 
 
 def main():
+    if sys.argv[1:] not in ([], ["--list"]):
+        sys.exit(__doc__)
+    if os.path.exists("docs/PORT.md"):
+        sys.exit("respell: this tree is spelled already, and today's proofs name goals that would turn with it")
     turned = table()
     if "--list" in sys.argv:
         for name in sorted(turned):
