@@ -3,6 +3,7 @@ ghost use Rattle.std.specs.Prelude.{◌≡◌};
 ghost use Rattle.calls.specs.Counts.{IsPrefixLen};
 
 use fields::{Field, unsigned_4};
+use std::io::Read;
 
 // How many bytes of a buffer are meant; 0 where the script is wrong.
 #[derive(Drop)]
