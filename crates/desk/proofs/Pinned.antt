@@ -121,25 +121,25 @@ module _ (s : Held) (r : System) (call : Shows s r) where
   figures_numbered = call.numbered
 
   module _ (F : Figures) (μ : List ℤ) (count : ℕ) (some : state_of s ≡ holds F μ count) where
-    e : r ≡ system_told (shows_to (holds F μ count))
-    e = call.told ∙ ap (λ st. system_told (shows_to st)) some
+    told_of : r ≡ system_told (shows_to (state_of s)) → r ≡ system_told (shows_to (holds F μ count))
+    told_of told = told ∙ ap (λ st. system_told (shows_to st)) some
 
     pub shown_numbers : (r.refusal ≡ refusal 0 0) × (r.last ≡ F.last) × (r.closeness ≡ F.closeness)
     unfolding shows_to
-    shown_numbers = (ap (λ x. x.refusal) e, ap (λ x. x.last) e, ap (λ x. x.closeness) e)
+    shown_numbers = let e = told_of call.told in (ap (λ x. x.refusal) e, ap (λ x. x.last) e, ap (λ x. x.closeness) e)
 
     pub shown_own : (k : ℕ) → k < 31 → get_or r.own k 0 ≡ get_or F.own k 0
     unfolding shows_to
-    shown_own k below = ap (λ x. get_or x.own k 0) e ∙ tab_at 31 (λ i. get_or F.own i 0) k 0 below
+    shown_own k below = ap (λ x. get_or x.own k 0) (told_of call.told) ∙ tab_at 31 (λ i. get_or F.own i 0) k 0 below
 
     -- in both halves
     pub shown_entry : (k l : ℕ) → k < 31 → l < 31 → part r.matrix (31 * k + l) ≡ entry F k l
     unfolding shows_to
-    shown_entry k l k-below l-below = ap (λ x. part x.matrix (31 * k + l)) e ∙ entry_at F k l k-below l-below
+    shown_entry k l k-below l-below = ap (λ x. part x.matrix (31 * k + l)) (told_of call.told) ∙ entry_at F k l k-below l-below
 
     pub shown_right_hand : (k : ℕ) → k < 31 → part r.right_hand k ≡ part F.right_hand_side k
     unfolding shows_to
-    shown_right_hand k below = ap (λ x. part x.right_hand k) e ∙ tab_at 31 (part F.right_hand_side) k (pos 0) below
+    shown_right_hand k below = ap (λ x. part x.right_hand k) (told_of call.told) ∙ tab_at 31 (part F.right_hand_side) k (pos 0) below
 
   -- of the file that is open, whatever its J
   module _ (f : StruckFile) (μ : List ℤ) (count : ℕ) (open-file : HoldsFile s f μ count) where

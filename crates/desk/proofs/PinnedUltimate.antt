@@ -67,10 +67,11 @@ module _ (o : Observations) (s : Held) (year : ℕ) (r : Projected) (call : Proj
     abbrev found : U.Ultimate
     found = ultimate_of (last_year f.file) (U.latest_of f.file) year (part μ)
 
-    answer : r ≡ record { refusal = none; floor = found.floor; remainder = found.remainder; divisor = found.divisor }
+    answer : r ≡ ultimate_told (projects_to o (state_of s) year)
+        → r ≡ record { refusal = none; floor = found.floor; remainder = found.remainder; divisor = found.divisor }
     unfolding outcome ultimate_call figures_from
-    answer =
-        call.told
+    answer told =
+        told
         ∙ ap (λ x. ultimate_told x.answer) (sym (ultimate_session o s year))
         ∙ ap (λ st. ultimate_told (outcome in_session st (ultimate year)).answer) kept
         ∙ ap (λ x. ultimate_told x.answer) (outcome_alike the_file in_session kept_of session_alike (holds f μ count) (ultimate year))
@@ -81,4 +82,4 @@ module _ (o : Observations) (s : Held) (year : ℕ) (r : Projected) (call : Proj
         × (r.floor *ℤ pos (N f.file year (part μ) + M f.file year (part μ)) +ℤ pos r.remainder ≡ figure f.file year (part μ))
         × (r.remainder < N f.file year (part μ) + M f.file year (part μ))
         × (r.divisor ≡ N f.file year (part μ) + M f.file year (part μ))
-    ultimate_of_file taken = let h = exact f.file year (part μ) taken from to in rw answer (refl, h.0, h.1, h.2)
+    ultimate_of_file taken = let h = exact f.file year (part μ) taken from to in rw (answer call.told) (refl, h.0, h.1, h.2)
