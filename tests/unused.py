@@ -93,7 +93,7 @@ class Source:
         return name in used or bool(signs) and used.issuperset(signs)
 
     def calls_by_trait(self, name: str) -> bool:
-        """Whether a method is called that begins as the trait is named, as `read_exact` of `Read`: in Rattle its import alone makes it known."""
+        """Whether a method is called that begins as the trait is named, as `read_exact` of `Read`: the import makes it known."""
         called = re.search(rf"\.{name.lower()}(?:_\w+)?\(", self.text)
         return not self.antt and name[:1].isupper() and called is not None
 

@@ -6,7 +6,8 @@ usage: python3 tools/respell.py [--list]
 Run once at the top of the repository, after /opt/rattle/port/port.py. A name that a file of specs/ or proofs/ declares (the answers of a
 function's own proof aside, which Rattle names) turns in all of them, and in the clauses, ghost items and comments of src/. A capital
 inside a word becomes an underscore and a small letter, and so does a dash between two words. Types and modules keep their spelling, a
-dash beside a symbol stays, since it joins two names, and so does whatever the kit declares. A lemma that would meet a definition's name ends in `_lem`, as in the kit. --list prints the table and writes nothing.
+dash beside a symbol stays, since it joins two names, and so does whatever the kit declares. A lemma that would meet a definition's name
+ends in `_lem`, as in the kit. --list prints the table and writes nothing.
 """
 import os
 import re
