@@ -38,7 +38,9 @@ need_kit() {
 
 # Whether a file is there, and no source is newer.
 is_current() { # FILE
-    [ -f "$1" ] && [ -z "$(find "$root/crates.txt" "$root"/crates/*/{src,specs} -type f -newer "$1" -print -quit)" ]
+    local sources=("$root/crates.txt" "$root"/crates/*/{src,specs})
+    compgen -G "$root/crates/*/proofs" >/dev/null && sources+=("$root"/crates/*/proofs)
+    [ -f "$1" ] && [ -z "$(find "${sources[@]}" -type f -newer "$1" -print -quit)" ]
 }
 
 # Counts the named crates with all that they use. A line of crates.txt uses only crates of the lines above it.

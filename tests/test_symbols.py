@@ -27,8 +27,8 @@ OF_THE_CRATES = {
 
 # Modules of the kit that hand on one another's names as they are, so that a name means the same from each of them.
 HANDING_ON = re.compile(
-    r"Rattle\.std\.(specs\.Prelude|proofs\.(Common|Math\.\w+|lemmas\.Bool))|Prim\.Native\.Nat|mathlib\.Core\.\w+|native\.Mathlib\.\w+"
-    r"|lib\.\w+|mir\.Val|types\.Kit|borrow\.Author\.Tests"
+    r"Rattle\.std\.(specs\.Prelude|proofs\.(Common|Math\.(Bool|Dec|IntN|ListN|Numerals|Path|Seq)|lemmas\.Bool))|Prim\.Native\.Nat"
+    r"|mathlib\.Core\.(Bool|List|Logic|Path)|native\.Mathlib\.Omega|lib\.(IntN|Signed)|mir\.Val|borrow\.Author\.Tests"
 )
 
 # Fields and variables that have a name of the kit or of a definition, and pins.
@@ -218,7 +218,7 @@ class Symbols(unittest.TestCase):
     def test_examples_are_the_joint_table_s(self) -> None:
         module = re.compile(r"^ *(?:pub |ghost |unfoldable )*use Rattle\.definitions\.specs\.Examples\b", re.MULTILINE)
         users = [name for name in sources(".antt") + sources(".rt") if module.search(text_of(name))]
-        self.assertLessEqual(set(users), set(antt_files(TABLE)))
+        self.assertEqual(users, [antt_file(TABLE)])
 
     def test_sums_are_handed_on_as_they_are(self) -> None:
         self.assertIn("unfoldable pub use Rattle.integers.specs.Summation.{sum, total}\n", text_of(antt_file(HANDED_ON)))
