@@ -23,7 +23,7 @@ use Rattle.observations.specs.declared.Observations.{Observations}
 use Rattle.observations.specs.Arrays.{at, brought_within, log_within, observations_at, observed_in}
 use Rattle.projecting.specs.declared.Ultimate.{Ultimate}
 use Rattle.projecting.specs.declared.central.Side.{Side}
-use Rattle.projecting.specs.Central.{OfRun, parts_from, variances_from, OfSide, SideOf, OfSides, Weighted, OfYear, CentralOf}
+use Rattle.projecting.specs.Central.{OfRun, parts_from, variances_from, OfSide, SideOf, SideSmall, OfSides, Weighted, OfYear, CentralOf}
 use Rattle.projecting.specs.Projects.{of_ultimate}
 
 -- ---- sums
@@ -42,8 +42,7 @@ variances_some variances first n some =
 
 -- ---- one side
 
-pub side_small : (z : ℤ) {mean : List ℤ} {cell first count : ℕ} → OfSide mean cell first count
-    → nat_abs (log_within z +ℤ parts_from mean first count) ≤ 2 ^ 30
+pub side_small : (z : ℤ) {mean : List ℤ} {cell first count : ℕ} → OfSide mean cell first count → SideSmall z mean first count
 side_small z {mean} {cell} {first} {count} h =
     omega (
       arith,

@@ -42,6 +42,10 @@ pub record SideOf (mean ticks : List ℤ) (variances : List ℕ) (cell first cou
   pub ultimate : r.ultimate.0 ≡ log_within (part ticks cell) +ℤ parts_from mean first count
   pub variance : r.variance.0 ≡ variances_from variances first count
 
+-- what a side comes to at most
+abbrev pub SideSmall : ℤ → List ℤ → ℕ → ℕ → Type 0
+SideSmall z mean first count = nat_abs (log_within z +ℤ parts_from mean first count) ≤ 2 ^ 30
+
 -- ---- both sides
 
 pub record OfSides (paid incurred : Side) : Type 0 where
