@@ -136,7 +136,11 @@ class Made(unittest.TestCase):
             self.assertEqual(vectors.paths(f"{program}/tables-256"), kept)
 
     def test_small_enough_to_keep(self) -> None:
-        self.assertLess(sum(map(len, vectors.files_of(self.made).values())), 2_200_000)
+        """Those of residues have room of their own."""
+        of_residues = {name: vector for name, vector in self.made.items() if "residues" in name}
+        others = {name: vector for name, vector in self.made.items() if name not in of_residues}
+        self.assertLess(sum(map(len, vectors.files_of(others).values())), 2_000_000)
+        self.assertLess(sum(map(len, vectors.files_of(of_residues).values())), 150_000)
 
     def test_made_again_they_are_the_same(self) -> None:
         self.assertEqual(vectors.make(vectors.DEFAULT_SEED), self.made)
