@@ -49,11 +49,9 @@ pub fn starts_of(last: u8) -> [usize; 16]
     let table = ROW_STARTS;
     let years = last as usize;
     let mut starts = [0usize; 16];
-    let mut year = 0usize;
-    while year < 16 {
+    for year in 0..16 {
         let entry = table[16 * years + year];
         starts[year] = entry as usize;
-        year += 1;
     }
     starts
 }

@@ -20,7 +20,7 @@ rule table test k below = ap (λ l. get_or l k 0) test ∙ tab_at 256 table_entr
 
 pub loop-year-init : goal.loop-year-init
 unfolding tab_from
-loop-year-init c = (refl, omega arith, filled_none 16 0 _)
+loop-year-init c = (refl, filled_none 16 0 _)
 
 pub overflow_cast-starts : goal.overflow_cast-starts
 overflow_cast-starts c =
@@ -33,7 +33,7 @@ pub loop-year-preserved : goal.loop-year-preserved
 loop-year-preserved c =
     let l = c.before.loop-year in
     let entry = rule _ l.invariant.0 (16 * c.before.before.args.last + l.year) (omega arith) in
-    (l.invariant.0, omega arith, filled_next l.invariant.2 (omega arith) entry)
+    (l.invariant.0, filled_next l.invariant.1 (omega arith) entry)
 
 pub returns : goal.returns
-returns c = record { filled = filled_to (omega arith) c.before.loop-year.invariant.2 }
+returns c = record { filled = filled_to (omega arith) c.before.loop-year.invariant.1 }
