@@ -43,12 +43,8 @@ pub fn ticks_inside(ticks: &[i64; 303]) -> [i64; 303]
     ensures { TicksInside ticks.now result }
 {
     let mut inside = [0i64; 303];
-    let mut c = 0usize;
-    while c < 303 {
-        let kept = ticks[c];
-        let value = tick_within(c, kept);
-        inside[c] = value;
-        c += 1;
+    for c in 0..303 {
+        inside[c] = tick_within(c, ticks[c]);
     }
     inside
 }
@@ -72,10 +68,8 @@ pub fn weights_inside(weights: &[u64; 77], n: usize) -> [u64; 77]
     ensures { WeightsInside n weights.now result }
 {
     let mut inside = [0u64; 77];
-    let mut c = 0usize;
-    while c < 77 {
+    for c in 0..77 {
         inside[c] = brought_within(least_weight(n, c), most_weight(c), weights[c]);
-        c += 1;
     }
     inside
 }
@@ -91,10 +85,8 @@ pub fn marks_inside<'a>(left: &'a [u64; 31], struck: &'a [u8; 496]) -> [u8; 496]
     ensures { MarksInside left.now struck.now result }
 {
     let mut inside = [0u8; 496];
-    let mut c = 0usize;
-    while c < 496 {
+    for c in 0..496 {
         inside[c] = mark_within(left[c / 16], struck[c]);
-        c += 1;
     }
     inside
 }

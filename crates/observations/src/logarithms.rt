@@ -33,15 +33,11 @@ pub fn read_logarithms<'a>(ticks: &'a mut [i64; 303], file: &'a [u8])
     ensures { Logarithms file.now ticks.new }
 {
     let count = 2 * cells_of(last_year(file));
-    let mut c = 0usize;
-    while c + 4 <= count {
-        four_cells(ticks, file, c);
-        c += 4;
+    let fours = count / 4;
+    for n in 0..fours {
+        four_cells(ticks, file, 4 * n);
     }
-    while c < count {
-        let log = logarithm_of(amount_of(file, c));
-        let found = log.0;
-        ticks[c] = found;
-        c += 1;
+    for c in 4 * fours..count {
+        ticks[c] = logarithm_of(amount_of(file, c)).0;
     }
 }

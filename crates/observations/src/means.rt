@@ -9,10 +9,7 @@ pub fn start_mean<'a>(mean: &'a mut [i64; 31], ticks: &'a [i64; 303], last: u8)
 {
     let count = 2 * (last as usize) + 1;
     *mean = [0; 31];
-    let mut k = 0usize;
-    while k < count {
-        let prior = ticks[PRIOR_MEANS + k];
-        mean[k] = prior;
-        k += 1;
+    for k in 0..count {
+        mean[k] = ticks[PRIOR_MEANS + k];
     }
 }

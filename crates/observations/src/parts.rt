@@ -38,9 +38,7 @@ pub fn read_parts<'a>(
     ensures { Parts file.now ticks.new weights.new variances.new }
 {
     let count = parts_of(last_year(file));
-    let mut k = 0usize;
-    while k < count {
+    for k in 0..count {
         read_part(ticks, weights, variances, file, k);
-        k += 1;
     }
 }

@@ -10,12 +10,9 @@ pub fn weigh_ratios<'a>(weights: &'a mut [u64; 77], variances: &'a [u64; 31], la
     ensures { RatiosWeighed variances.now last weights.old weights.new }
 {
     let mut variance = 0u64;
-    let mut k = last as usize;
-    let incurred = k + 1;
-    while 0 < k {
-        k -= 1;
-        variance += variances[k + 1] + variances[incurred + k];
-        let weight = weight_of(Variance(variance));
-        weights[RATIO_WEIGHTS + k] = weight.0;
+    let years = last as usize;
+    for k in (0..years).rev() {
+        variance += variances[k + 1] + variances[years + 1 + k];
+        weights[RATIO_WEIGHTS + k] = weight_of(Variance(variance)).0;
     }
 }

@@ -30,10 +30,8 @@ pub fn left_of(struck: &[u8; 496], k: usize, n: usize) -> u64
     ensures { result ≡ unmarked struck.now k n }
 {
     let mut count = 0u64;
-    let mut i = 0usize;
-    while i < n {
+    for i in 0..n {
         count += left(struck[16 * k + i]);
-        i += 1;
     }
     count
 }
@@ -45,10 +43,8 @@ pub fn left_in(struck: &[u8; 496], last: u8) -> [u64; 31]
 {
     let parts = 2 * (last as usize) + 1;
     let mut counts = [0u64; 31];
-    let mut k = 0usize;
-    while k < parts {
+    for k in 0..parts {
         counts[k] = left_of(struck, k, steps_of(last, k));
-        k += 1;
     }
     counts
 }

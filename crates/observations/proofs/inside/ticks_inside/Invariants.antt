@@ -1,5 +1,4 @@
 -- `observations::inside::ticks_inside` meets its contract. The loop's invariant: the numbers passed are inside.
-use Prim.Native.Nat.{◌-◌, ◌≤◌}
 use lib.IntN.{pos}
 use Rattle.definitions.specs.Words.{part}
 use Rattle.laws.specs.Filled.{Filled}
@@ -7,7 +6,4 @@ use Rattle.observations.specs.Inside.{tick_within}
 use Rattle.observations.proofs.inside.ticks_inside.Given as goal
 
 abbrev pub invariant-loop-c : goal.invariant-loop-c
-invariant-loop-c l = (l.c ≤ 303) × Filled 303 l.c (pos 0) (λ i. tick_within i (part l.ticks i)) l.inside
-
-abbrev pub decreases-loop-c : goal.decreases-loop-c
-decreases-loop-c l = 303 - l.c
+invariant-loop-c l = Filled 303 l.c (pos 0) (λ i. tick_within i (part l.ticks i)) l.inside

@@ -17,39 +17,6 @@ below : (c : After-struct_told-4-1) → c.args.c + 4 ≤ 272
 below c =
     omega (arith, c.requires.more, cells_few (last_year c.args.file.now) c.requires.whole.high)
 
-pub offset_bounds-ticks-c : goal.offset_bounds-ticks-c
-offset_bounds-ticks-c c = omega (arith, below c)
-
-pub bounds-ticks-c : goal.bounds-ticks-c
-bounds-ticks-c c = omega (arith, below c)
-
-pub overflow_add-second : goal.overflow_add-second
-overflow_add-second c = omega (arith, below c)
-
-pub offset_bounds-ticks-c-2 : goal.offset_bounds-ticks-c-2
-offset_bounds-ticks-c-2 c = omega (arith, below c)
-
-pub bounds-ticks-c-2 : goal.bounds-ticks-c-2
-bounds-ticks-c-2 c = omega (arith, below c)
-
-pub overflow_add-third : goal.overflow_add-third
-overflow_add-third c = omega (arith, below c)
-
-pub offset_bounds-ticks-c-3 : goal.offset_bounds-ticks-c-3
-offset_bounds-ticks-c-3 c = omega (arith, below c)
-
-pub bounds-ticks-c-3 : goal.bounds-ticks-c-3
-bounds-ticks-c-3 c = omega (arith, below c)
-
-pub overflow_add-fourth : goal.overflow_add-fourth
-overflow_add-fourth c = omega (arith, below c)
-
-pub offset_bounds-ticks-c-4 : goal.offset_bounds-ticks-c-4
-offset_bounds-ticks-c-4 c = omega (arith, below c)
-
-pub bounds-ticks-c-4 : goal.bounds-ticks-c-4
-bounds-ticks-c-4 c = omega (arith, below c)
-
 -- a logarithm as it is stored
 logged : {z : ℤ} {amount cell : ℕ} → mag z < 2 ^ 63 → z ≡ pos (logarithm amount) → amount ≡ cell → stored z ≡ pos (logarithm cell)
 logged {z} told is of = same z told ∙ is ∙ ap (λ a. pos (logarithm a)) of

@@ -10,38 +10,20 @@ use Rattle.observations.proofs.means.start_mean.Goals as goal
 use Rattle.observations.proofs.means.start_mean.Goals.{In-loop-k}
 
 pub loop-k-init : goal.loop-k-init
-loop-k-init c = (omega arith, filled_none 31 (pos 0) _)
+loop-k-init c = filled_none 31 (pos 0) _
 
 below : (c : In-loop-k) → c.loop-k.k < parts c.args.last
-below c = omega (arith, c.loop-k-test.true)
+below c = omega arith
 
 room : (c : In-loop-k) → c.loop-k.k < 31
-room c = omega (arith, below c, c.requires.few)
-
-pub overflow_add-prior : goal.overflow_add-prior
-overflow_add-prior c = omega (arith, room c)
-
-pub offset_bounds-ticks-k : goal.offset_bounds-ticks-k
-offset_bounds-ticks-k c = omega (arith, room c)
-
-pub bounds-ticks-k : goal.bounds-ticks-k
-bounds-ticks-k c = omega (arith, room c)
-
-pub offset_bounds-mean-k : goal.offset_bounds-mean-k
-offset_bounds-mean-k c = omega (arith, room (goal.at.offset_bounds-mean-k c).In-loop-k)
-
-pub bounds-mean-k : goal.bounds-mean-k
-bounds-mean-k c = room (goal.at.bounds-mean-k c).In-loop-k
-
-pub overflow_add-k : goal.overflow_add-k
-overflow_add-k c = omega (arith, room (goal.at.overflow_add-k c).In-loop-k)
+room c = omega (arith, c.requires.few)
 
 pub loop-k-preserved : goal.loop-k-preserved
 loop-k-preserved c =
     let in_loop_k = (goal.at.loop-k-preserved c).In-loop-k in
     let k = c.loop-k.k in
     let prior = read (mean_at c.args.ticks.now k) (omega (arith, c.requires.small k (below in_loop_k))) in
-    (omega (arith, below in_loop_k), filled_next c.loop-k.invariant.1 (room in_loop_k) prior)
+    filled_next c.loop-k.invariant (room in_loop_k) prior
 
 pub returns : goal.returns
-returns c = record { filled = filled_to (omega arith) c.loop-k.invariant.1 }
+returns c = record { filled = filled_to (omega arith) c.loop-k.invariant }

@@ -1,12 +1,8 @@
 -- `observations::means::start_mean` meets its contract. The loop's invariant: the parts passed have their prior means.
-use Prim.Native.Nat.{◌-◌, ◌≤◌}
 use lib.IntN.{pos}
 use Rattle.laws.specs.Filled.{Filled}
 use Rattle.observations.specs.Arrays.{mean_at}
 use Rattle.observations.proofs.means.start_mean.Given as goal
 
 abbrev pub invariant-loop-k : goal.invariant-loop-k
-invariant-loop-k l = (l.k ≤ l.count) × Filled 31 l.k (pos 0) (mean_at l.ticks) l.mean
-
-abbrev pub decreases-loop-k : goal.decreases-loop-k
-decreases-loop-k l = l.count - l.k
+invariant-loop-k l = Filled 31 l.k (pos 0) (mean_at l.ticks) l.mean

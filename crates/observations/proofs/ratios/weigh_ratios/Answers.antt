@@ -12,7 +12,7 @@ use Rattle.observations.proofs.ratios.weigh_ratios.Goals as goal
 use Rattle.observations.proofs.ratios.weigh_ratios.Goals.{In-loop-k}
 
 pub loop-k-init : goal.loop-k-init
-loop-k-init c = (omega arith, sym (ratio_from_last c.args.last (at c.args.variances.now)), weighed_none c.requires)
+loop-k-init c = (sym (ratio_from_last c.args.last (at c.args.variances.now)), weighed_none c.requires)
 
 -- the year before that of the loop, and the sum with its two variances
 module _ (c : In-loop-k) where
@@ -29,73 +29,28 @@ module _ (c : In-loop-k) where
   year = omega (arith, c.loop-k-test.true)
 
   below : k < J
-  below = omega (arith, c.loop-k-test.true, c.loop-k.invariant.0)
+  below = omega (arith, c.loop-k-test.true)
 
   few : J ≤ 15
   few = c.requires.few
 
   sum : c.loop-k.variance + (at variances (k + 1) + at variances (J + 1 + k)) ≡ ratio_from J (at variances) k
   sum =
-      ap (λ v. v + (at variances (k + 1) + at variances (J + 1 + k))) (c.loop-k.invariant.1 ∙ ap (ratio_from J (at variances)) year)
+      ap (λ v. v + (at variances (k + 1) + at variances (J + 1 + k))) (c.loop-k.invariant.0 ∙ ap (ratio_from J (at variances)) year)
       ∙ sym (ratio_from_next J (at variances) k below)
 
   sum_small : c.loop-k.variance + (at variances (k + 1) + at variances (J + 1 + k)) ≤ 30 * 2 ^ 40
   sum_small = omega (arith, sum, ratio_from_small c.requires k)
 
-pub overflow_add-variance : goal.overflow_add-variance
-overflow_add-variance c = omega (arith, below c, few c)
-
-pub offset_bounds-variances-k : goal.offset_bounds-variances-k
-offset_bounds-variances-k c = omega (arith, below c, few c)
-
-pub bounds-variances-k : goal.bounds-variances-k
-bounds-variances-k c =
-    let in_loop_k = (goal.at.bounds-variances-k c).In-loop-k in
-    omega (arith, below in_loop_k, few in_loop_k)
-
-pub overflow_add-variance-in-loop-k : goal.overflow_add-variance-in-loop-k
-overflow_add-variance-in-loop-k c =
-    let in_loop_k = (goal.at.overflow_add-variance-in-loop-k c).In-loop-k in
-    omega (arith, below in_loop_k, few in_loop_k)
-
-pub offset_bounds-variances-incurred : goal.offset_bounds-variances-incurred
-offset_bounds-variances-incurred c =
-    let in_loop_k = (goal.at.offset_bounds-variances-incurred c).In-loop-k in
-    omega (arith, below in_loop_k, few in_loop_k)
-
-pub bounds-variances-incurred : goal.bounds-variances-incurred
-bounds-variances-incurred c =
-    let in_loop_k = (goal.at.bounds-variances-incurred c).In-loop-k in
-    omega (arith, below in_loop_k, few in_loop_k)
-
-pub overflow_add-variance-in-loop-k-2 : goal.overflow_add-variance-in-loop-k-2
-overflow_add-variance-in-loop-k-2 c = omega (arith, sum_small (goal.at.overflow_add-variance-in-loop-k-2 c).In-loop-k)
-
-pub overflow_add-variance-in-loop-k-3 : goal.overflow_add-variance-in-loop-k-3
-overflow_add-variance-in-loop-k-3 c = omega (arith, sum_small (goal.at.overflow_add-variance-in-loop-k-3 c).In-loop-k)
-
-pub overflow_add-weights : goal.overflow_add-weights
-overflow_add-weights c =
-    let in_loop_k = (goal.at.overflow_add-weights c).In-loop-k in
-    omega (arith, below in_loop_k, few in_loop_k)
-
-pub offset_bounds-weights-k : goal.offset_bounds-weights-k
-offset_bounds-weights-k c =
-    let in_loop_k = (goal.at.offset_bounds-weights-k c).In-loop-k in
-    omega (arith, below in_loop_k, few in_loop_k)
-
-pub bounds-weights-k : goal.bounds-weights-k
-bounds-weights-k c =
-    let in_loop_k = (goal.at.bounds-weights-k c).In-loop-k in
-    omega (arith, below in_loop_k, few in_loop_k)
+pub overflow_add-variance-in-loop-k-4 : goal.overflow_add-variance-in-loop-k-4
+overflow_add-variance-in-loop-k-4 c = omega (arith, sum_small (goal.at.overflow_add-variance-in-loop-k-4 c).In-loop-k)
 
 pub loop-k-preserved : goal.loop-k-preserved
 loop-k-preserved c =
     let in_loop_k = (goal.at.loop-k-preserved c).In-loop-k in (
-      omega (arith, below in_loop_k),
       sum in_loop_k,
-      weighed_next c.loop-k.invariant.2 (year in_loop_k) (below in_loop_k) (few in_loop_k)
-          (c.weight_of-weight.ensures ∙ ap weight (sum in_loop_k)),
+      weighed_next c.loop-k.invariant.1 (year in_loop_k) (below in_loop_k) (few in_loop_k)
+          (c.weight_of.ensures ∙ ap weight (sum in_loop_k)),
     )
 
 pub returns : goal.returns
@@ -103,4 +58,4 @@ returns c =
     let l = c.loop-k in
     let a = c.args in
     let none_left : l.k ≡ 0 = omega arith in
-    record { all = subst (λ k. WeighedFrom k a.variances.now a.last a.weights.now l.weights) none_left l.invariant.2 }
+    record { all = subst (λ k. WeighedFrom k a.variances.now a.last a.weights.now l.weights) none_left l.invariant.1 }

@@ -1,6 +1,5 @@
 -- `observations::ratios::weigh_ratios` meets its contract. The loop's invariant: the years from k on are weighed, and the variances to come
 -- after k are added up.
-use Prim.Native.Nat.{◌≤◌}
 use mathlib.Core.Path.{◌≡◌}
 use Rattle.observations.specs.Arrays.{at}
 use Rattle.observations.specs.Ratios.{ratio_from, WeighedFrom}
@@ -8,7 +7,4 @@ use Rattle.observations.proofs.ratios.weigh_ratios.Given as goal
 
 abbrev pub invariant-loop-k : goal.invariant-loop-k
 invariant-loop-k l =
-    (l.k ≤ l.last) × (l.variance ≡ ratio_from l.last (at l.variances) l.k) × WeighedFrom l.k l.variances l.last l.initial.weights l.weights
-
-abbrev pub decreases-loop-k : goal.decreases-loop-k
-decreases-loop-k l = l.k
+    (l.variance ≡ ratio_from l.last (at l.variances) l.k) × WeighedFrom l.k l.variances l.last l.initial.weights l.weights

@@ -2,7 +2,6 @@
 use Prim.Native.Nat.{◌<◌}
 use mathlib.Core.Path.{ap, ◌∙◌}
 use native.Mathlib.Omega.{arith}
-use Rattle.definitions.specs.Kept.{steps_of}
 use Rattle.laws.proofs.Filled.{filled_none, filled_next, filled_to}
 use Rattle.laws.proofs.Marks.{steps_few}
 use Rattle.observations.specs.Arrays.{unmarked}
@@ -10,13 +9,13 @@ use Rattle.observations.proofs.strikes.left_in.Goals as goal
 use Rattle.observations.proofs.strikes.left_in.Goals.{In-loop-k}
 
 pub loop-k-init : goal.loop-k-init
-loop-k-init c = (omega arith, filled_none 31 0 _)
+loop-k-init c = filled_none 31 0 _
 
 room : (c : In-loop-k) → c.loop-k.k < 31
-room c = omega (arith, c.loop-k-test.true, c.requires.few)
+room c = omega (arith, c.requires.few)
 
 pub steps_of-requires : goal.steps_of-requires
-steps_of-requires c = record { few = c.requires.few; below = omega (arith, c.loop-k-test.true) }
+steps_of-requires c = record { few = c.requires.few; below = omega arith }
 
 pub left_of-requires : goal.left_of-requires
 left_of-requires c =
@@ -25,23 +24,12 @@ left_of-requires c =
       few = omega (arith, c.steps_of.ensures, steps_few c.args.last c.loop-k.k c.requires.few);
     }
 
-pub offset_bounds-counts-k : goal.offset_bounds-counts-k
-offset_bounds-counts-k c = omega (arith, room (goal.at.offset_bounds-counts-k c).In-loop-k)
-
-pub bounds-counts-k : goal.bounds-counts-k
-bounds-counts-k c = room (goal.at.bounds-counts-k c).In-loop-k
-
-pub overflow_add-k : goal.overflow_add-k
-overflow_add-k c = omega (arith, room (goal.at.overflow_add-k c).In-loop-k)
-
 pub loop-k-preserved : goal.loop-k-preserved
 loop-k-preserved c =
     let a = c.args in
-    let k = c.loop-k.k in (
-      omega arith,
-      filled_next c.loop-k.invariant.1 (room (goal.at.loop-k-preserved c).In-loop-k)
-          (c.left_of.ensures ∙ ap (unmarked a.struck.now k) c.steps_of.ensures),
-    )
+    let k = c.loop-k.k in
+    filled_next c.loop-k.invariant (room (goal.at.loop-k-preserved c).In-loop-k)
+    (c.left_of.ensures ∙ ap (unmarked a.struck.now k) c.steps_of.ensures)
 
 pub returns : goal.returns
-returns c = record { filled = filled_to (omega arith) c.loop-k.invariant.1 }
+returns c = record { filled = filled_to (omega arith) c.loop-k.invariant }

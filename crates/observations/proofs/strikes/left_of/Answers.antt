@@ -1,5 +1,5 @@
 -- `observations::strikes::left_of` meets its contract. The loop's invariant: those of the first i steps are counted.
-use Prim.Native.Nat.{◌+◌, ◌*◌, ◌<◌}
+use Prim.Native.Nat.{◌+◌}
 use mathlib.Core.Path.{◌≡◌, sym, ap, ◌∙◌}
 use native.Mathlib.Omega.{arith}
 use Rattle.integers.specs.Total.{total_zero}
@@ -9,40 +9,24 @@ use Rattle.observations.proofs.strikes.left_of.Goals as goal
 use Rattle.observations.proofs.strikes.left_of.Goals.{After-left-count, In-loop-i}
 
 pub loop-i-init : goal.loop-i-init
-loop-i-init c = (omega arith, sym (total_zero _))
-
-inside : (c : In-loop-i) → 16 * c.args.k + c.loop-i.i < 496
-inside c = omega (arith, c.loop-i-test.true, c.requires.part_there, c.requires.few)
-
-pub overflow_mul-k : goal.overflow_mul-k
-overflow_mul-k c = omega (arith, inside c)
-
-pub overflow_add-k : goal.overflow_add-k
-overflow_add-k c = omega (arith, inside c)
-
-pub bounds-struck-k : goal.bounds-struck-k
-bounds-struck-k c = omega (arith, inside (goal.at.bounds-struck-k c).In-loop-i)
+loop-i-init c = sym (total_zero _)
 
 -- with the next step
 next : (c : After-left-count) → let a = c.args in
     c.loop-i.count + c.left-count.result ≡ unmarked a.struck.now a.k (c.loop-i.i + 1)
 next c =
     let a = c.args in
-    unmarked_next a.struck.now a.k c.loop-i.i c.loop-i.invariant.1 c.left-count.ensures
+    unmarked_next a.struck.now a.k c.loop-i.i c.loop-i.invariant c.left-count.ensures
 
 pub overflow_add-count : goal.overflow_add-count
-overflow_add-count c =
-    omega (arith, next c, unmarked_few c.args.struck.now c.args.k (c.loop-i.i + 1), c.loop-i-test.true, c.requires.few)
-
-pub overflow_add-i : goal.overflow_add-i
-overflow_add-i c = omega (arith, inside (goal.at.overflow_add-i c).In-loop-i)
+overflow_add-count c = omega (arith, next c, unmarked_few c.args.struck.now c.args.k (c.loop-i.i + 1), c.requires.few)
 
 pub loop-i-preserved : goal.loop-i-preserved
-loop-i-preserved c = (omega arith, next c)
+loop-i-preserved c = next c
 
 pub returns : goal.returns
 returns c =
     let l = c.loop-i in
     let a = c.args in
     let all : l.i ≡ a.n = omega arith in
-    l.invariant.1 ∙ ap (unmarked a.struck.now a.k) all
+    l.invariant ∙ ap (unmarked a.struck.now a.k) all

@@ -1,11 +1,7 @@
 -- `observations::strikes::left_of` meets its contract. The loop's invariant: those of the first i steps are counted.
-use Prim.Native.Nat.{◌-◌, ◌≤◌}
 use mathlib.Core.Path.{◌≡◌}
 use Rattle.observations.specs.Arrays.{unmarked}
 use Rattle.observations.proofs.strikes.left_of.Given as goal
 
 abbrev pub invariant-loop-i : goal.invariant-loop-i
-invariant-loop-i l = (l.i ≤ l.n) × (l.count ≡ unmarked l.struck l.k l.i)
-
-abbrev pub decreases-loop-i : goal.decreases-loop-i
-decreases-loop-i l = l.n - l.i
+invariant-loop-i l = l.count ≡ unmarked l.struck l.k l.i
