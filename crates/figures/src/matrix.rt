@@ -1,5 +1,5 @@
 // The precision matrix, flat: row k, column l at 31·k + l, filled from the own weights and the sums of g.
-ghost use Rattle.std.specs.Prelude.{◌≡◌, ◌*◌, min};
+ghost use Rattle.std.specs.Prelude.{◌≡◌, ◌*◌};
 ghost use Rattle.definitions.specs.Layout.{parts};
 ghost use Rattle.definitions.specs.Matrix.{part_by_index};
 ghost use Rattle.laws.specs.Ranks.{rank_of};
@@ -27,12 +27,6 @@ pub fn rank_of(last: u8, k: usize) -> usize
     if k <= years { k } else { k - years }
 }
 
-fn smaller(a: usize, b: usize) -> usize
-    ensures { result ≡ min a b }
-{
-    if a < b { a } else { b }
-}
-
 // The sums of g with the sign turned: what a Φ and a Ψ share is subtracted.
 fn turned_shares(shares: &[i64; 16], last: u8) -> [i64; 16]
     requires { OfTurned shares.now last }
@@ -40,11 +34,8 @@ fn turned_shares(shares: &[i64; 16], last: u8) -> [i64; 16]
 {
     let count = last as usize + 1;
     let mut turned = [0i64; 16];
-    let mut n = 0usize;
-    while n < count {
-        let value = -shares[n];
-        turned[n] = value;
-        n += 1;
+    for n in 0..count {
+        turned[n] = -shares[n];
     }
     turned
 }
@@ -61,11 +52,8 @@ fn fill_run<'a>(
     requires { OfRun matrix.old shares.now rank at first count }
     ensures { Stretch count at (run_of shares.now rank first) matrix.old matrix.new }
 {
-    let mut n = 0usize;
-    while n < count {
-        let value = shares[smaller(rank, first + n)];
-        matrix[at + n] = value;
-        n += 1;
+    for n in 0..count {
+        matrix[at + n] = shares[rank.min(first + n)];
     }
 }
 
@@ -105,8 +93,7 @@ fn fill_row<'a>(
     } else {
         fill_shares(matrix, turned, shares, last, k);
     }
-    let value = own[k] as i64 + matrix[32 * k];
-    matrix[32 * k] = value;
+    matrix[32 * k] += own[k] as i64;
 }
 
 // The whole matrix, zeros behind its parts.
@@ -122,9 +109,7 @@ pub fn fill_matrix<'a>(
     let count = 2 * (last as usize) + 1;
     let turned = turned_shares(shares, last);
     *matrix = [0; 961];
-    let mut k = 0usize;
-    while k < count {
+    for k in 0..count {
         fill_row(matrix, own, shares, &turned, last, k);
-        k += 1;
     }
 }

@@ -43,12 +43,10 @@ fn step_sum<'a>(
 {
     let count = last as usize - column;
     let mut total = 0i64;
-    let mut i = 0usize;
-    while i < count {
+    for i in 0..count {
         let at = block + (starts[i] + column);
         let step = ticks[at + 1] - ticks[at];
         total += counted(struck[16 * k + i], step);
-        i += 1;
     }
     total
 }
@@ -65,11 +63,8 @@ fn start_sum<'a>(
 {
     let count = last as usize + 1;
     let mut total = 0i64;
-    let mut i = 0usize;
-    while i < count {
-        let start = ticks[starts[i]];
-        total += counted(struck[i], start);
-        i += 1;
+    for i in 0..count {
+        total += counted(struck[i], ticks[starts[i]]);
     }
     total
 }
@@ -115,11 +110,8 @@ pub fn column_sums<'a>(
 {
     let count = 2 * (last as usize) + 1;
     let mut sums = [0i64; 31];
-    let mut k = 0usize;
-    while k < count {
-        let sum = column_sum(ticks, starts, struck, last, k);
-        sums[k] = sum;
-        k += 1;
+    for k in 0..count {
+        sums[k] = column_sum(ticks, starts, struck, last, k);
     }
     sums
 }
@@ -139,13 +131,11 @@ pub fn ratio_sums<'a>(
     let cells = cells_of(last);
     let mut sums = [0i64; 16];
     let mut total = 0i64;
-    let mut d = 0usize;
-    while d < years {
+    for d in 0..years {
         let year = years - d;
         let at = starts[year] + d;
         total += weights[RATIO_WEIGHTS + d] as i64 * (ticks[cells + at] - ticks[at]);
-        d += 1;
-        sums[d] = total;
+        sums[d + 1] = total;
     }
     sums
 }
@@ -183,11 +173,8 @@ pub fn right_hand_of<'a>(
 {
     let count = 2 * (last as usize) + 1;
     let mut targets = [0i64; 31];
-    let mut k = 0usize;
-    while k < count {
-        let value = right_hand_at(weights, ticks, sums, ratios, last, k);
-        targets[k] = value;
-        k += 1;
+    for k in 0..count {
+        targets[k] = right_hand_at(weights, ticks, sums, ratios, last, k);
     }
     targets
 }

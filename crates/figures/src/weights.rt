@@ -11,11 +11,9 @@ pub fn shares(weights: &[u64; 77], last: u8) -> [i64; 16]
     let years = last as usize;
     let mut sums = [0i64; 16];
     let mut total = 0i64;
-    let mut n = 0usize;
-    while n < years {
+    for n in 0..years {
         total += weights[RATIO_WEIGHTS + n] as i64;
-        n += 1;
-        sums[n] = total;
+        sums[n + 1] = total;
     }
     sums
 }
@@ -27,10 +25,8 @@ pub fn own_weights<'a>(weights: &'a [u64; 77], left: &'a [u64; 31], last: u8) ->
 {
     let count = 2 * (last as usize) + 1;
     let mut own = [0u64; 31];
-    let mut k = 0usize;
-    while k < count {
+    for k in 0..count {
         own[k] = weights[PRIOR_WEIGHTS + k] + left[k] * weights[k];
-        k += 1;
     }
     own
 }

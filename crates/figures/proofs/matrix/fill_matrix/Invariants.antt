@@ -1,10 +1,6 @@
 -- `figures::matrix::fill_matrix` meets its contract. The loop's invariant: the rows passed are filled.
-use Prim.Native.Nat.{◌-◌, ◌≤◌}
 use Rattle.figures.specs.Entries.{RowsTo}
 use Rattle.figures.proofs.matrix.fill_matrix.Given as goal
 
 abbrev pub invariant-loop-k : goal.invariant-loop-k
-invariant-loop-k l = (l.k ≤ l.count) × RowsTo l.k l.own l.shares l.last l.matrix
-
-abbrev pub decreases-loop-k : goal.decreases-loop-k
-decreases-loop-k l = l.count - l.k
+invariant-loop-k l = RowsTo l.k l.own l.shares l.last l.matrix

@@ -9,6 +9,7 @@ use lib.ListN.{set}
 use mir.Syntax.{w64}
 use mir.Val.{to_z, of_z}
 use mir.Facts.{to_z_pos}
+use Rattle.std.proofs.Math.IntN.{+ℤ_comm}
 use Rattle.integers.specs.Size.{fits, kept, nat_abs-+}
 use Rattle.definitions.specs.Words.{part}
 use Rattle.definitions.specs.Layout.{parts}
@@ -20,7 +21,7 @@ use Rattle.observations.specs.Arrays.{at}
 use Rattle.figures.specs.Entries.{share_of, entry_of, Stretch}
 use Rattle.figures.specs.EntryLaws.{share_size, turned_small, phi_row, psi_row, entry_on, entry_off, stretch_as, stretch_put}
 use Rattle.figures.proofs.matrix.fill_row.Goals as goal
-use Rattle.figures.proofs.matrix.fill_row.Goals.{then-k-last, else-k-last, After-value-1}
+use Rattle.figures.proofs.matrix.fill_row.Goals.{then-k-last, else-k-last, Joined-k-last}
 
 pub fill_shares-requires : goal.fill_shares-requires
 fill_shares-requires c =
@@ -35,7 +36,7 @@ fill_shares-requires-else-k-last c =
     record { long = p.long; few = p.of_row.of_matrix.few; row = p.of_row.row; phis_small = turned_small p.of_turned small; psis_small = small }
 
 -- the row before the own weight is added, and its diagonal entry
-module _ (c : After-value-1) where
+module _ (c : Joined-k-last) where
   abbrev J : ℕ
   J = c.args.last
 
@@ -77,31 +78,31 @@ module _ (c : After-value-1) where
   own_small : own < 2 ^ 40
   own_small = c.requires.of_row.of_matrix.own_small k c.requires.of_row.row
 
-  whole : to_z w64 own +ℤ to_z w64 (of_z w64 diagonal) ≡ pos own +ℤ diagonal
-  whole = ap₂ ◌+ℤ◌ (to_z_pos w64 (omega (arith, own_small))) (read diagonal (omega (arith, diagonal_small)))
+  whole : to_z w64 (of_z w64 diagonal) +ℤ to_z w64 own ≡ pos own +ℤ diagonal
+  whole = ap₂ ◌+ℤ◌ (read diagonal (omega (arith, diagonal_small))) (to_z_pos w64 (omega (arith, own_small))) ∙ +ℤ_comm diagonal (pos own)
 
   whole_small : nat_abs (pos own +ℤ diagonal) < 2 ^ 63
   whole_small = omega (arith, own_small, diagonal_small, nat_abs-+ (pos own) diagonal)
 
-pub overflow_cast-value : goal.overflow_cast-value
-overflow_cast-value c = fits refl (omega (arith, own_small c))
+pub overflow_cast-matrix : goal.overflow_cast-matrix
+overflow_cast-matrix c = fits refl (omega (arith, own_small (goal.at.overflow_cast-matrix c).Joined-k-last))
 
-pub overflow_add-value : goal.overflow_add-value
-overflow_add-value c =
-    let after_value_1 = (goal.at.overflow_add-value c).After-value-1 in
-    fits (whole after_value_1) (whole_small after_value_1)
+pub overflow_add-matrix : goal.overflow_add-matrix
+overflow_add-matrix c =
+    let joined = (goal.at.overflow_add-matrix c).Joined-k-last in
+    fits (whole joined) (whole_small joined)
 
 pub returns : goal.returns
 returns c =
-    let after_value_1 = (goal.at.returns c).After-value-1 in
+    let joined = (goal.at.returns c).Joined-k-last in
     let own_of_lem = c.args.own.now in
     let shares_of = c.args.shares.now in
-    let value = stored (to_z w64 (own after_value_1) +ℤ stored (diagonal after_value_1)) in
-    let place : 31 * k after_value_1 + k after_value_1 ≡ 32 * k after_value_1 = omega arith in
+    let value = stored (stored (diagonal joined) +ℤ to_z w64 (own joined)) in
+    let place : 31 * k joined + k joined ≡ 32 * k joined = omega arith in
     record {
-      whole = subst (λ i. Row after_value_1 (entry_of own_of_lem shares_of (J after_value_1) (k after_value_1)) (set c.if-k-last.matrix i value)) place
-          (stretch_put (filled after_value_1) (omega (arith, c.requires.of_row.row, c.requires.of_row.of_matrix.few))
-          (kept w64 (whole after_value_1) (whole_small after_value_1) ∙ ap (λ z. pos (own after_value_1) +ℤ z) (diagonal_is after_value_1)
-          ∙ entry_on own_of_lem shares_of (J after_value_1) (k after_value_1))
-          (λ l below apart. (below, entry_off own_of_lem shares_of (J after_value_1) (k after_value_1) l apart)));
+      whole = subst (λ i. Row joined (entry_of own_of_lem shares_of (J joined) (k joined)) (set c.if-k-last.matrix i value)) place
+          (stretch_put (filled joined) (omega (arith, c.requires.of_row.row, c.requires.of_row.of_matrix.few))
+          (kept w64 (whole joined) (whole_small joined) ∙ ap (λ z. pos (own joined) +ℤ z) (diagonal_is joined)
+          ∙ entry_on own_of_lem shares_of (J joined) (k joined))
+          (λ l below apart. (below, entry_off own_of_lem shares_of (J joined) (k joined) l apart)));
     }

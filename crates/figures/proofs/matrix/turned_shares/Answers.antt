@@ -15,7 +15,7 @@ use Rattle.figures.proofs.matrix.turned_shares.Goals as goal
 use Rattle.figures.proofs.matrix.turned_shares.Goals.{In-loop-n}
 
 pub loop-n-init : goal.loop-n-init
-loop-n-init c = (omega arith, filled_none 16 (pos 0) _)
+loop-n-init c = filled_none 16 (pos 0) _
 
 module _ (c : In-loop-n) where
   abbrev share : ℤ
@@ -34,30 +34,15 @@ module _ (c : In-loop-n) where
   turned_fits : nat_abs (neg_ℤ share) < 2 ^ 63
   turned_fits = omega (arith, share_small, nat_abs_neg share)
 
-pub offset_bounds-shares-n : goal.offset_bounds-shares-n
-offset_bounds-shares-n c = omega (arith, in_array c)
-
-pub bounds-shares-n : goal.bounds-shares-n
-bounds-shares-n c = in_array c
-
-pub overflow_sub-value : goal.overflow_sub-value
-overflow_sub-value c =
-    let in_loop_n = (goal.at.overflow_sub-value c).In-loop-n in
+pub overflow_sub-turned : goal.overflow_sub-turned
+overflow_sub-turned c =
+    let in_loop_n = (goal.at.overflow_sub-turned c).In-loop-n in
     fits (turned_is in_loop_n) (turned_fits in_loop_n)
-
-pub offset_bounds-turned-n : goal.offset_bounds-turned-n
-offset_bounds-turned-n c = omega (arith, in_array (goal.at.offset_bounds-turned-n c).In-loop-n)
-
-pub bounds-turned-n : goal.bounds-turned-n
-bounds-turned-n c = in_array (goal.at.bounds-turned-n c).In-loop-n
-
-pub overflow_add-n : goal.overflow_add-n
-overflow_add-n c = omega (arith, in_array (goal.at.overflow_add-n c).In-loop-n)
 
 pub loop-n-preserved : goal.loop-n-preserved
 loop-n-preserved c =
     let in_loop_n = (goal.at.loop-n-preserved c).In-loop-n in
-    (omega arith, filled_next c.loop-n.invariant.1 (in_array in_loop_n) (kept w64 (turned_is in_loop_n) (turned_fits in_loop_n)))
+    filled_next c.loop-n.invariant (in_array in_loop_n) (kept w64 (turned_is in_loop_n) (turned_fits in_loop_n))
 
 pub returns : goal.returns
-returns c = record { turns = λ n h. c.loop-n.invariant.1.front n (omega arith) }
+returns c = record { turns = λ n h. c.loop-n.invariant.front n (omega arith) }

@@ -8,15 +8,15 @@ use Rattle.integers.specs.Bits.{same}
 use Rattle.figures.proofs.right_hand.column_sums.Goals as goal
 
 pub loop-k-init : goal.loop-k-init
-loop-k-init c = (omega arith, filled_none 31 (pos 0) _)
+loop-k-init c = filled_none 31 (pos 0) _
 
-pub column_sum-sum-requires : goal.column_sum-sum-requires
-column_sum-sum-requires c = record { of_rows = c.requires; below = omega (arith, c.loop-k-test.true) }
+pub column_sum-requires : goal.column_sum-requires
+column_sum-requires c = record { of_rows = c.requires; below = omega (arith, c.loop-k-test.true) }
 
 pub loop-k-preserved : goal.loop-k-preserved
 loop-k-preserved c =
     let room : c.loop-k.k < 31 = omega (arith, c.loop-k-test.true, c.requires.logs_small.few) in
-    (omega arith, filled_next c.loop-k.invariant.1 room (same c.column_sum-sum.result c.column_sum-sum.type_inv ∙ c.column_sum-sum.ensures))
+    filled_next c.loop-k.invariant room (same c.column_sum.result c.column_sum.type_inv ∙ c.column_sum.ensures)
 
 pub returns : goal.returns
-returns c = record { filled = filled_to (omega arith) c.loop-k.invariant.1 }
+returns c = record { filled = filled_to (omega arith) c.loop-k.invariant }

@@ -1,11 +1,11 @@
 -- `figures::right_hand::ratio_sums` meets its contract. The loop's invariant: the sums up to development year d are there.
 use Prim.Native.Nat.{ℕ, ◌+◌, ◌*◌, ◌-◌, ◌^◌, ◌≤◌, ◌<◌}
-use mathlib.Core.Path.{◌≡◌, refl, sym, ap, ap₂, subst, ◌∙◌}
+use mathlib.Core.Path.{◌≡◌, refl, sym, ap, ap₂, ◌∙◌}
 use mathlib.Core.List.{List}
 use native.Mathlib.Omega.{arith}
 use lib.IntN.{ℤ, pos, nat_abs, ◌+ℤ◌, ◌-ℤ◌, ◌*ℤ◌}
 use mir.Syntax.{w64}
-use mir.Val.{to_z, Fits}
+use mir.Val.{to_z}
 use Rattle.integers.specs.Size.{fits, kept}
 use Rattle.integers.specs.Sum.{sum, sum_next}
 use Rattle.integers.specs.Size.{nat_abs-*-≤}
@@ -22,7 +22,7 @@ use Rattle.figures.proofs.right_hand.ratio_sums.Goals as goal
 use Rattle.figures.proofs.right_hand.ratio_sums.Goals.{In-loop-d}
 
 pub loop-d-init : goal.loop-d-init
-loop-d-init c = (omega arith, summed_none _)
+loop-d-init c = summed_none _
 
 -- the next weight and logarithms, as they are read
 module _ (c : In-loop-d) where
@@ -93,36 +93,15 @@ module _ (c : In-loop-d) where
   product_small = omega (arith, products_small d more)
 
   next : to_z w64 c.loop-d.total-bits +ℤ stored (to_z w64 (weight d) *ℤ stored read_ratio) ≡ sum (d + 1) term
-  next = ap₂ ◌+ℤ◌ c.loop-d.invariant.1.at_hand (kept w64 product product_small) ∙ sym (sum_next d term)
+  next = ap₂ ◌+ℤ◌ c.loop-d.invariant.at_hand (kept w64 product product_small) ∙ sym (sum_next d term)
 
   next_small : nat_abs (sum (d + 1) term) < 2 ^ 63
   next_small =
       sum_small (d + 1) term (omega (arith, more, small.few)) (λ y below. omega (arith, products_small y (omega (arith, more))))
 
-pub offset_bounds-starts-year : goal.offset_bounds-starts-year
-offset_bounds-starts-year c = omega (arith, (small c).few)
-
-pub bounds-starts-year : goal.bounds-starts-year
-bounds-starts-year c = omega (arith, (small (goal.at.bounds-starts-year c).In-loop-d).few)
-
-pub overflow_add-at : goal.overflow_add-at
-overflow_add-at c =
-    let in_loop_d = (goal.at.overflow_add-at c).In-loop-d in
-    subst (Fits w64) (sym (at_is in_loop_d)) (record { fits = omega (arith, in_array in_loop_d, at_is in_loop_d) })
-
 pub overflow_add-total : goal.overflow_add-total
 overflow_add-total c =
     let in_loop_d = (goal.at.overflow_add-total c).In-loop-d in
-    omega (arith, more in_loop_d, (small in_loop_d).few)
-
-pub offset_bounds-weights-d : goal.offset_bounds-weights-d
-offset_bounds-weights-d c =
-    let in_loop_d = (goal.at.offset_bounds-weights-d c).In-loop-d in
-    omega (arith, more in_loop_d, (small in_loop_d).few)
-
-pub bounds-weights-d : goal.bounds-weights-d
-bounds-weights-d c =
-    let in_loop_d = (goal.at.bounds-weights-d c).In-loop-d in
     omega (arith, more in_loop_d, (small in_loop_d).few)
 
 pub overflow_cast-total : goal.overflow_cast-total
@@ -130,18 +109,6 @@ overflow_cast-total c = fits refl (omega (arith, weight_small (goal.at.overflow_
 
 pub overflow_add-total-in-loop-d : goal.overflow_add-total-in-loop-d
 overflow_add-total-in-loop-d c = omega (arith, in_array (goal.at.overflow_add-total-in-loop-d c).In-loop-d)
-
-pub offset_bounds-ticks-cells : goal.offset_bounds-ticks-cells
-offset_bounds-ticks-cells c = omega (arith, in_array (goal.at.offset_bounds-ticks-cells c).In-loop-d)
-
-pub bounds-ticks-cells : goal.bounds-ticks-cells
-bounds-ticks-cells c = omega (arith, in_array (goal.at.bounds-ticks-cells c).In-loop-d)
-
-pub offset_bounds-ticks-at : goal.offset_bounds-ticks-at
-offset_bounds-ticks-at c = omega (arith, in_array (goal.at.offset_bounds-ticks-at c).In-loop-d)
-
-pub bounds-ticks-at : goal.bounds-ticks-at
-bounds-ticks-at c = omega (arith, in_array (goal.at.bounds-ticks-at c).In-loop-d)
 
 pub overflow_sub-total : goal.overflow_sub-total
 overflow_sub-total c =
@@ -161,7 +128,7 @@ overflow_add-total-in-loop-d-2 c =
 pub loop-d-preserved : goal.loop-d-preserved
 loop-d-preserved c =
     let in_loop_d = (goal.at.loop-d-preserved c).In-loop-d in
-    (omega arith, summed_next c.loop-d.invariant.1 (omega (arith, more in_loop_d, (small in_loop_d).few)) (kept w64 (next in_loop_d) (next_small in_loop_d)))
+    summed_next c.loop-d.invariant (omega (arith, more in_loop_d, (small in_loop_d).few)) (kept w64 (next in_loop_d) (next_small in_loop_d))
 
 pub returns : goal.returns
-returns c = record { is = λ n few. c.loop-d.invariant.1.there n (omega arith) }
+returns c = record { is = λ n few. c.loop-d.invariant.there n (omega arith) }

@@ -1,5 +1,4 @@
 -- `figures::right_hand::ratio_sums` meets its contract. The loop's invariant: the sums up to development year d are there.
-use Prim.Native.Nat.{◌-◌, ◌≤◌}
 use lib.IntN.{pos, ◌*ℤ◌}
 use Rattle.observations.specs.Arrays
 use Rattle.laws.specs.RunningSums.{Summed}
@@ -8,7 +7,4 @@ use Rattle.figures.proofs.right_hand.ratio_sums.Given as goal
 
 abbrev pub invariant-loop-d : goal.invariant-loop-d
 invariant-loop-d l =
-    (l.d ≤ l.years) × Summed l.d (λ y. pos (Arrays.ratio_at l.weights y) *ℤ ratio_of l.ticks l.last y) (l.total) l.sums
-
-abbrev pub decreases-loop-d : goal.decreases-loop-d
-decreases-loop-d l = l.years - l.d
+    Summed l.d (λ y. pos (Arrays.ratio_at l.weights y) *ℤ ratio_of l.ticks l.last y) l.total l.sums

@@ -8,16 +8,16 @@ use Rattle.integers.specs.Bits.{same}
 use Rattle.figures.proofs.right_hand.right_hand_of.Goals as goal
 
 pub loop-k-init : goal.loop-k-init
-loop-k-init c = (omega arith, filled_none 31 (pos 0) _)
+loop-k-init c = filled_none 31 (pos 0) _
 
-pub right_hand_at-value-requires : goal.right_hand_at-value-requires
-right_hand_at-value-requires c = record { of_targets = c.requires; below = omega (arith, c.loop-k-test.true) }
+pub right_hand_at-requires : goal.right_hand_at-requires
+right_hand_at-requires c = record { of_targets = c.requires; below = omega (arith, c.loop-k-test.true) }
 
 pub loop-k-preserved : goal.loop-k-preserved
 loop-k-preserved c =
     let room : c.loop-k.k < 31 = omega (arith, c.loop-k-test.true, c.requires.few) in
-    let target = same c.right_hand_at-value.result c.right_hand_at-value.type_inv ∙ c.right_hand_at-value.ensures in
-    (omega arith, filled_next c.loop-k.invariant.1 room target)
+    let target = same c.right_hand_at.result c.right_hand_at.type_inv ∙ c.right_hand_at.ensures in
+    filled_next c.loop-k.invariant room target
 
 pub returns : goal.returns
-returns c = record { filled = filled_to (omega arith) c.loop-k.invariant.1 }
+returns c = record { filled = filled_to (omega arith) c.loop-k.invariant }

@@ -1,5 +1,4 @@
 -- `figures::right_hand::right_hand_of` meets its contract. The loop's invariant: the parts passed have their right-hand sides.
-use Prim.Native.Nat.{◌-◌, ◌≤◌}
 use lib.IntN.{pos}
 use Rattle.laws.specs.Filled.{Filled}
 use Rattle.figures.specs.Sums.{target_from}
@@ -7,7 +6,4 @@ use Rattle.figures.proofs.right_hand.right_hand_of.Given as goal
 
 abbrev pub invariant-loop-k : goal.invariant-loop-k
 invariant-loop-k l =
-    (l.k ≤ l.count) × Filled 31 l.k (pos 0) (target_from l.weights l.ticks l.sums l.ratios l.last) l.targets
-
-abbrev pub decreases-loop-k : goal.decreases-loop-k
-decreases-loop-k l = l.count - l.k
+    Filled 31 l.k (pos 0) (target_from l.weights l.ticks l.sums l.ratios l.last) l.targets

@@ -21,7 +21,7 @@ use Rattle.figures.proofs.right_hand.start_sum.Goals as goal
 use Rattle.figures.proofs.right_hand.start_sum.Goals.{After-counted-total, In-loop-i}
 
 pub loop-i-init : goal.loop-i-init
-loop-i-init c = (omega arith, sym (sum_zero _))
+loop-i-init c = sym (sum_zero _)
 
 -- the next logarithm, as it is read
 module _ (c : In-loop-i) where
@@ -70,32 +70,13 @@ module _ (c : In-loop-i) where
       (λ y below. counted_small c.args.struck.now 0 start y
       (omega (arith, small.small (row_start J y) (starts_inside y (omega (arith, more))))))
 
-pub offset_bounds-starts-i : goal.offset_bounds-starts-i
-offset_bounds-starts-i c = omega (arith, more c, (small c).few)
-
-pub bounds-starts-i : goal.bounds-starts-i
-bounds-starts-i c =
-    let in_loop_i = (goal.at.bounds-starts-i c).In-loop-i in
-    omega (arith, more in_loop_i, (small in_loop_i).few)
-
-pub offset_bounds-ticks-starts : goal.offset_bounds-ticks-starts
-offset_bounds-ticks-starts c = omega (arith, in_array (goal.at.offset_bounds-ticks-starts c).In-loop-i)
-
-pub bounds-ticks-starts : goal.bounds-ticks-starts
-bounds-ticks-starts c = omega (arith, in_array (goal.at.bounds-ticks-starts c).In-loop-i)
-
-pub bounds-struck-i : goal.bounds-struck-i
-bounds-struck-i c =
-    let in_loop_i = (goal.at.bounds-struck-i c).In-loop-i in
-    omega (arith, more in_loop_i, (small in_loop_i).few)
-
 -- with the next logarithm, where it counts
 next : (c : After-counted-total)
     → to_z w64 c.loop-i.total-bits +ℤ stored c.counted-total.result
     ≡ sum (i (goal.at.overflow_add-total c).In-loop-i + 1) (counts (goal.at.overflow_add-total c).In-loop-i)
 next c =
     let struck = c.args.struck.now in
-    ap₂ ◌+ℤ◌ c.loop-i.invariant.1
+    ap₂ ◌+ℤ◌ c.loop-i.invariant
     (same c.counted-total.result c.counted-total.type_inv
     ∙ c.counted-total.ensures
     ∙ ap₂ (λ n z. cond (not (eqb (Arrays.at struck n) 0)) (pos 0) z) (first (i (goal.at.overflow_add-total c).In-loop-i))
@@ -109,7 +90,7 @@ pub overflow_add-total : goal.overflow_add-total
 overflow_add-total c = fits (next c) (next_small (goal.at.overflow_add-total c).In-loop-i)
 
 pub loop-i-preserved : goal.loop-i-preserved
-loop-i-preserved c = (omega arith, kept w64 (next c) (next_small (goal.at.loop-i-preserved c).In-loop-i))
+loop-i-preserved c = kept w64 (next c) (next_small (goal.at.loop-i-preserved c).In-loop-i)
 
 pub returns : goal.returns
 unfolding start_sum
@@ -117,4 +98,4 @@ returns c =
     let l = c.loop-i in
     let a = c.args in
     let all : l.i ≡ a.last + 1 = omega arith in
-    l.invariant.1 ∙ ap (λ m. sum m (counted_at a.struck.now 0 (λ y. part a.ticks.now (row_start a.last y)))) all
+    l.invariant ∙ ap (λ m. sum m (counted_at a.struck.now 0 (λ y. part a.ticks.now (row_start a.last y)))) all

@@ -1,5 +1,4 @@
 -- `figures::right_hand::start_sum` meets its contract. The loop's invariant: the total is that of the years before i.
-use Prim.Native.Nat.{◌-◌, ◌≤◌}
 use mathlib.Core.Path.{◌≡◌}
 use Rattle.integers.specs.Sum.{sum}
 use Rattle.definitions.specs.Words.{part}
@@ -9,7 +8,4 @@ use Rattle.figures.proofs.right_hand.start_sum.Given as goal
 
 abbrev pub invariant-loop-i : goal.invariant-loop-i
 invariant-loop-i l =
-    (l.i ≤ l.count) × (l.total ≡ sum l.i (counted_at l.struck 0 (λ y. part l.ticks (row_start l.last y))))
-
-abbrev pub decreases-loop-i : goal.decreases-loop-i
-decreases-loop-i l = l.count - l.i
+    l.total ≡ sum l.i (counted_at l.struck 0 (λ y. part l.ticks (row_start l.last y)))

@@ -1,12 +1,12 @@
 -- `figures::right_hand::step_sum` meets its contract. The loop's invariant: the total is that of the years before i.
 use Prim.Native.Nat.{ℕ, ◌+◌, ◌*◌, ◌-◌, ◌^◌, ◌≤◌, ◌<◌}
-use mathlib.Core.Path.{◌≡◌, sym, ap, ap₂, subst, ◌∙◌}
+use mathlib.Core.Path.{◌≡◌, sym, ap, ap₂, ◌∙◌}
 use mathlib.Core.Bool.{cond}
 use mathlib.Core.List.{List}
 use native.Mathlib.Omega.{arith}
 use lib.IntN.{ℤ, pos, nat_abs, ◌+ℤ◌, ◌-ℤ◌}
 use mir.Syntax.{w64}
-use mir.Val.{to_z, Fits}
+use mir.Val.{to_z}
 use Rattle.integers.specs.Size.{fits, kept}
 use Rattle.integers.specs.Sum.{sum, sum_zero, sum_next}
 use Rattle.definitions.specs.Words.{part}
@@ -24,7 +24,7 @@ pub overflow_sub-count : goal.overflow_sub-count
 overflow_sub-count c = omega (arith, c.requires.before_last)
 
 pub loop-i-init : goal.loop-i-init
-loop-i-init c = (omega arith, sym (sum_zero _))
+loop-i-init c = sym (sum_zero _)
 
 -- the next two logarithms, as they are read
 module _ (c : In-loop-i) where
@@ -86,50 +86,10 @@ module _ (c : In-loop-i) where
   mark_inside : 16 * c.args.k + i < 496
   mark_inside = omega (arith, more, small.few, c.requires.of_part)
 
-pub offset_bounds-starts-i : goal.offset_bounds-starts-i
-offset_bounds-starts-i c = omega (arith, more c, (small c).few)
-
-pub bounds-starts-i : goal.bounds-starts-i
-bounds-starts-i c =
-    let in_loop_i = (goal.at.bounds-starts-i c).In-loop-i in
-    omega (arith, more in_loop_i, (small in_loop_i).few)
-
-pub overflow_add-at : goal.overflow_add-at
-overflow_add-at c =
-    let in_loop_i = (goal.at.overflow_add-at c).In-loop-i in
-    subst (Fits w64) (sym (cell_is in_loop_i)) (record { fits = omega (arith, in_array in_loop_i, cell_is in_loop_i) })
-
-pub overflow_add-at-in-loop-i : goal.overflow_add-at-in-loop-i
-overflow_add-at-in-loop-i c = omega (arith, in_array (goal.at.overflow_add-at-in-loop-i c).In-loop-i)
-
-pub overflow_add-step : goal.overflow_add-step
-overflow_add-step c = omega (arith, in_array (goal.at.overflow_add-step c).In-loop-i)
-
-pub offset_bounds-ticks-at : goal.offset_bounds-ticks-at
-offset_bounds-ticks-at c = omega (arith, in_array (goal.at.offset_bounds-ticks-at c).In-loop-i)
-
-pub bounds-ticks-at : goal.bounds-ticks-at
-bounds-ticks-at c = omega (arith, in_array (goal.at.bounds-ticks-at c).In-loop-i)
-
-pub offset_bounds-ticks-at-in-loop-i : goal.offset_bounds-ticks-at-in-loop-i
-offset_bounds-ticks-at-in-loop-i c = omega (arith, in_array (goal.at.offset_bounds-ticks-at-in-loop-i c).In-loop-i)
-
-pub bounds-ticks-at-in-loop-i : goal.bounds-ticks-at-in-loop-i
-bounds-ticks-at-in-loop-i c = omega (arith, in_array (goal.at.bounds-ticks-at-in-loop-i c).In-loop-i)
-
 pub overflow_sub-step : goal.overflow_sub-step
 overflow_sub-step c =
     let in_loop_i = (goal.at.overflow_sub-step c).In-loop-i in
     fits (step in_loop_i) (next_step in_loop_i)
-
-pub overflow_mul-k : goal.overflow_mul-k
-overflow_mul-k c = omega (arith, mark_inside (goal.at.overflow_mul-k c).In-loop-i)
-
-pub overflow_add-k : goal.overflow_add-k
-overflow_add-k c = omega (arith, mark_inside (goal.at.overflow_add-k c).In-loop-i)
-
-pub bounds-struck-k : goal.bounds-struck-k
-bounds-struck-k c = omega (arith, mark_inside (goal.at.bounds-struck-k c).In-loop-i)
 
 -- with the next step, where it counts
 next : (c : After-counted-total)
@@ -137,7 +97,7 @@ next : (c : After-counted-total)
     ≡ sum (i (goal.at.overflow_add-total c).In-loop-i + 1) (counts (goal.at.overflow_add-total c).In-loop-i)
 next c =
     let a = c.args in
-    ap₂ ◌+ℤ◌ c.loop-i.invariant.1
+    ap₂ ◌+ℤ◌ c.loop-i.invariant
     (same c.counted-total.result c.counted-total.type_inv
     ∙ c.counted-total.ensures
     ∙ ap (cond (mark_at a.struck.now a.k (i (goal.at.overflow_add-total c).In-loop-i)) (pos 0))
@@ -148,7 +108,7 @@ pub overflow_add-total : goal.overflow_add-total
 overflow_add-total c = fits (next c) (next_small (goal.at.overflow_add-total c).In-loop-i)
 
 pub loop-i-preserved : goal.loop-i-preserved
-loop-i-preserved c = (omega arith, kept w64 (next c) (next_small (goal.at.loop-i-preserved c).In-loop-i))
+loop-i-preserved c = kept w64 (next c) (next_small (goal.at.loop-i-preserved c).In-loop-i)
 
 pub returns : goal.returns
 unfolding step_sum
@@ -156,4 +116,4 @@ returns c =
     let l = c.loop-i in
     let a = c.args in
     let all : l.i ≡ a.last - a.column = omega arith in
-    l.invariant.1 ∙ ap (λ m. sum m (counted_at a.struck.now a.k (step_of a.ticks.now a.last a.block a.column))) all
+    l.invariant ∙ ap (λ m. sum m (counted_at a.struck.now a.k (step_of a.ticks.now a.last a.block a.column))) all

@@ -1,5 +1,4 @@
 -- `figures::right_hand::step_sum` meets its contract. The loop's invariant: the total is that of the years before i.
-use Prim.Native.Nat.{◌-◌, ◌≤◌}
 use mathlib.Core.Path.{◌≡◌}
 use Rattle.integers.specs.Sum.{sum}
 use Rattle.figures.specs.Sums.{step_of, counted_at}
@@ -7,7 +6,4 @@ use Rattle.figures.proofs.right_hand.step_sum.Given as goal
 
 abbrev pub invariant-loop-i : goal.invariant-loop-i
 invariant-loop-i l =
-    (l.i ≤ l.count) × (l.total ≡ sum l.i (counted_at l.struck l.k (step_of l.ticks l.last l.block l.column)))
-
-abbrev pub decreases-loop-i : goal.decreases-loop-i
-decreases-loop-i l = l.count - l.i
+    l.total ≡ sum l.i (counted_at l.struck l.k (step_of l.ticks l.last l.block l.column))

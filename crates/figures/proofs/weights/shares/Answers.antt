@@ -15,7 +15,7 @@ use Rattle.figures.proofs.weights.shares.Goals as goal
 use Rattle.figures.proofs.weights.shares.Goals.{After-total-1}
 
 pub loop-n-init : goal.loop-n-init
-loop-n-init c = (omega arith, summed_none _)
+loop-n-init c = summed_none _
 
 small : (c : After-total-1) → ratio_at c.args.weights.now c.loop-n.n ≤ 2 ^ 28
 small c = c.requires.small c.loop-n.n c.loop-n-test.true
@@ -27,7 +27,7 @@ next : (c : After-total-1)
 next c =
     let l = c.loop-n in
     let g = c.args.weights.now in
-    ap₂ ◌+ℤ◌ l.invariant.1.at_hand (to_z_pos w64 (omega (arith, small c))) ∙ sym (sum_next l.n (λ i. pos (ratio_at g i)))
+    ap₂ ◌+ℤ◌ l.invariant.at_hand (to_z_pos w64 (omega (arith, small c))) ∙ sym (sum_next l.n (λ i. pos (ratio_at g i)))
 
 next_small : (c : After-total-1)
     → let l = c.loop-n in nat_abs (sum (l.n + 1) (λ i. pos (ratio_at c.args.weights.now i))) < 2 ^ 63
@@ -46,7 +46,7 @@ overflow_add-total-in-loop-n c = fits (next c) (next_small c)
 
 pub loop-n-preserved : goal.loop-n-preserved
 loop-n-preserved c =
-    (omega arith, summed_next c.loop-n.invariant.1 (omega (arith, c.loop-n-test.true, c.requires.few)) (kept w64 (next c) (next_small c)))
+    summed_next c.loop-n.invariant (omega (arith, c.loop-n-test.true, c.requires.few)) (kept w64 (next c) (next_small c))
 
 pub returns : goal.returns
-returns c = record { is = λ n few. c.loop-n.invariant.1.there n (omega arith) }
+returns c = record { is = λ n few. c.loop-n.invariant.there n (omega arith) }
