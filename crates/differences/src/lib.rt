@@ -50,12 +50,8 @@ pub fn residues_of<'a>(
     let starts = starts_of(last);
     let shared = ratios_missed(ticks, weights, &starts, mean, last);
     let mut residues = [0i64; 31];
-    let mut k = 0usize;
-    while k < count {
-        let part = mean[k];
-        let residue = residue_at(ticks, weights, struck, &starts, &shared, last, k, part);
-        residues[k] = residue;
-        k += 1;
+    for k in 0..count {
+        residues[k] = residue_at(ticks, weights, struck, &starts, &shared, last, k, mean[k]);
     }
     residues
 }

@@ -72,15 +72,13 @@ pub fn steps_missed<'a>(
     let kept = kept_weight(weights, k);
     let weight = kept.0;
     let mut total = 0i64;
-    let mut i = 0usize;
-    while i < count {
+    for i in 0..count {
         let observed = observation(ticks, starts[i], last, k, i);
         total += weighed(
             step_weight(left, struck[16 * k + i], weight),
             part,
             observed,
         );
-        i += 1;
     }
     total
 }

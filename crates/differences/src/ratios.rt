@@ -14,10 +14,8 @@ fn ratio_of(mean: &[i64; 31], last: u8, d: usize) -> i64
     let years = last as usize;
     let count = years - d;
     let mut total = 0i64;
-    let mut n = 0usize;
-    while n < count {
+    for n in 0..count {
         total += mean[d + 1 + n] - mean[years + 1 + d + n];
-        n += 1;
     }
     total
 }
@@ -38,15 +36,13 @@ pub fn ratios_missed<'a>(
     let cells = cells_of(last);
     let mut sums = [0i64; 16];
     let mut total = 0i64;
-    let mut d = 0usize;
-    while d < years {
+    for d in 0..years {
         let at = starts[years - d] + d;
         let incurred = kept_logarithm(ticks, cells + at);
         let paid = kept_logarithm(ticks, at);
         let weight = kept_ratio_weight(weights, d);
         total += weighed(weight.0, ratio_of(mean, last, d), incurred.0 - paid.0);
-        d += 1;
-        sums[d] = total;
+        sums[d + 1] = total;
     }
     sums
 }

@@ -14,13 +14,7 @@ use Rattle.observations.specs.Arrays.{observations_at}
 use Rattle.differences.specs.Differences.{left_in, ResidueAt}
 use Rattle.differences.proofs.DifferenceLaws.{ratios_small, residue_is}
 use Rattle.differences.proofs.residues_of.Goals as goal
-use Rattle.differences.proofs.residues_of.Goals.{After-residue_at-residue, In-loop-k}
-
-pub overflow_mul-count : goal.overflow_mul-count
-overflow_mul-count c = omega (arith, c.requires.few)
-
-pub overflow_add-count : goal.overflow_add-count
-overflow_add-count c = omega (arith, c.requires.few)
+use Rattle.differences.proofs.residues_of.Goals.{After-residue_at, In-loop-k}
 
 pub starts_of-starts-requires : goal.starts_of-starts-requires
 starts_of-starts-requires c = c.requires.few
@@ -30,7 +24,7 @@ ratios_missed-shared-requires c =
     record { few = c.requires.few; small = c.requires.small; starts_are = c.starts_of-starts.ensures }
 
 pub loop-k-init : goal.loop-k-init
-loop-k-init c = (omega arith, λ variances. filled_none 31 (pos 0) _)
+loop-k-init c = λ variances. filled_none 31 (pos 0) _
 
 -- the next part
 module _ (c : In-loop-k) where
@@ -55,15 +49,9 @@ module _ (c : In-loop-k) where
   held : stored (part mean k) ≡ part mean k
   held = read (part mean k) (omega (arith, c.requires.small k below))
 
-pub offset_bounds-mean-k : goal.offset_bounds-mean-k
-offset_bounds-mean-k c = omega (arith, below c, years c)
-
-pub bounds-mean-k : goal.bounds-mean-k
-bounds-mean-k c = omega (arith, below c, years c)
-
-pub residue_at-residue-requires : goal.residue_at-residue-requires
-residue_at-residue-requires c =
-    let in_loop_k = (goal.at.residue_at-residue-requires c).In-loop-k in
+pub residue_at-requires : goal.residue_at-requires
+residue_at-requires c =
+    let in_loop_k = (goal.at.residue_at-requires c).In-loop-k in
     record {
       of_steps = record {
         of_part = record { few = years in_loop_k; below = below in_loop_k; small = rw (held in_loop_k) (c.requires.small (k in_loop_k) (below in_loop_k)) };
@@ -74,50 +62,29 @@ residue_at-residue-requires c =
           (ratios_small (J in_loop_k) (o in_loop_k []) (years in_loop_k) (mean in_loop_k) c.requires.small n few);
     }
 
-pub offset_bounds-residues-k : goal.offset_bounds-residues-k
-offset_bounds-residues-k c =
-    let in_loop_k = (goal.at.offset_bounds-residues-k c).In-loop-k in
-    omega (arith, below in_loop_k, years in_loop_k)
-
-pub bounds-residues-k : goal.bounds-residues-k
-bounds-residues-k c =
-    let in_loop_k = (goal.at.bounds-residues-k c).In-loop-k in
-    omega (arith, below in_loop_k, years in_loop_k)
-
-pub overflow_add-k : goal.overflow_add-k
-overflow_add-k c =
-    let in_loop_k = (goal.at.overflow_add-k c).In-loop-k in
-    omega (arith, below in_loop_k, years in_loop_k)
-
-pub loop-k-smaller : goal.loop-k-smaller
-loop-k-smaller c = omega (arith, below (goal.at.loop-k-smaller c).In-loop-k)
-
 -- the residue of part k
-residue : (c : After-residue_at-residue) (variances : List ℕ)
-    → stored c.residue_at-residue.result
-    ≡ observed_times (left_in (J (goal.at.offset_bounds-residues-k c).In-loop-k) (o (goal.at.offset_bounds-residues-k c).In-loop-k variances)) 1
-    (part (mean (goal.at.offset_bounds-residues-k c).In-loop-k)) (k (goal.at.offset_bounds-residues-k c).In-loop-k)
+residue : (c : After-residue_at) (variances : List ℕ)
+    → stored c.residue_at.result
+    ≡ observed_times (left_in (J (goal.at.loop-k-preserved c).In-loop-k) (o (goal.at.loop-k-preserved c).In-loop-k variances)) 1
+    (part (mean (goal.at.loop-k-preserved c).In-loop-k)) (k (goal.at.loop-k-preserved c).In-loop-k)
 residue c variances =
     let marks = c.args.struck.now in
     let shared = c.ratios_missed-shared.result in
-    same _ c.residue_at-residue.type_inv
-    ∙ (subst (λ v. ResidueAt c.args.ticks.now c.args.weights.now marks shared (J (goal.at.offset_bounds-residues-k c).In-loop-k)
-    (k (goal.at.offset_bounds-residues-k c).In-loop-k) v c.residue_at-residue.result) (held (goal.at.offset_bounds-residues-k c).In-loop-k)
-    c.residue_at-residue.ensures).is variances
-    ∙ residue_is (J (goal.at.offset_bounds-residues-k c).In-loop-k) (o (goal.at.offset_bounds-residues-k c).In-loop-k variances)
-    (mean (goal.at.offset_bounds-residues-k c).In-loop-k) (k (goal.at.offset_bounds-residues-k c).In-loop-k)
-    (below (goal.at.offset_bounds-residues-k c).In-loop-k) shared (λ n few. c.ratios_missed-shared.ensures.are variances marks n few)
+    same _ c.residue_at.type_inv
+    ∙ (subst (λ v. ResidueAt c.args.ticks.now c.args.weights.now marks shared (J (goal.at.loop-k-preserved c).In-loop-k)
+    (k (goal.at.loop-k-preserved c).In-loop-k) v c.residue_at.result) (held (goal.at.loop-k-preserved c).In-loop-k)
+    c.residue_at.ensures).is variances
+    ∙ residue_is (J (goal.at.loop-k-preserved c).In-loop-k) (o (goal.at.loop-k-preserved c).In-loop-k variances)
+    (mean (goal.at.loop-k-preserved c).In-loop-k) (k (goal.at.loop-k-preserved c).In-loop-k)
+    (below (goal.at.loop-k-preserved c).In-loop-k) shared (λ n few. c.ratios_missed-shared.ensures.are variances marks n few)
 
 pub loop-k-preserved : goal.loop-k-preserved
 loop-k-preserved c =
-    let in_loop_k = (goal.at.loop-k-preserved c).In-loop-k in (
-      omega (arith, below in_loop_k),
-      λ variances. filled_next (c.loop-k.invariant.1 variances) (omega (arith, below in_loop_k, years in_loop_k))
-          (residue c variances),
-    )
+    let in_loop_k = (goal.at.loop-k-preserved c).In-loop-k in
+    λ variances. filled_next (c.loop-k.invariant variances) (omega (arith, below in_loop_k, years in_loop_k)) (residue c variances)
 
 pub returns : goal.returns
 returns c =
     let at = c.loop-k in
-    let all : at.k ≡ parts c.args.last = omega (arith, at.invariant.0, c.loop-k-test.false) in
-    record { are = λ variances. filled_to all (at.invariant.1 variances) }
+    let all : at.k ≡ parts c.args.last = omega arith in
+    record { are = λ variances. filled_to all (at.invariant variances) }

@@ -1,5 +1,5 @@
 -- `residues_of` meets its contract. The loop's invariant: the residues of the first k parts are there.
-use Prim.Native.Nat.{ℕ, ◌-◌, ◌≤◌}
+use Prim.Native.Nat.{ℕ}
 use mathlib.Core.List.{List}
 use lib.IntN.{ℤ, pos}
 use Rattle.definitions.specs.Words.{part}
@@ -16,7 +16,4 @@ residue_of ticks weights struck mean last variances =
 
 abbrev pub invariant-loop-k : goal.invariant-loop-k
 invariant-loop-k l =
-    (l.k ≤ l.count) × ((variances : List ℕ) → Filled 31 l.k (pos 0) (residue_of l.ticks l.weights l.struck l.mean l.last variances) l.residues)
-
-abbrev pub decreases-loop-k : goal.decreases-loop-k
-decreases-loop-k l = l.count - l.k
+    (variances : List ℕ) → Filled 31 l.k (pos 0) (residue_of l.ticks l.weights l.struck l.mean l.last variances) l.residues

@@ -41,7 +41,7 @@ pub kept_weight-kept-requires : goal.kept_weight-kept-requires
 kept_weight-kept-requires c = let part_of = c.requires.of_part in omega (arith, part_of.few, part_of.below)
 
 pub loop-i-init : goal.loop-i-init
-loop-i-init c = (omega arith, λ variances. sym (sum_zero _))
+loop-i-init c = λ variances. sym (sum_zero _)
 
 -- the next observation
 module _ (c : In-loop-i) where
@@ -89,14 +89,6 @@ module _ (c : In-loop-i) where
   next_small variances =
       omega (arith, steps_small J (o variances) years k below v small (i + 1) (omega (arith, there)))
 
-pub offset_bounds-starts-i : goal.offset_bounds-starts-i
-offset_bounds-starts-i c = omega (arith, year_few c, years c)
-
-pub bounds-starts-i : goal.bounds-starts-i
-bounds-starts-i c =
-    let in_loop_i = (goal.at.bounds-starts-i c).In-loop-i in
-    omega (arith, year_few in_loop_i, years in_loop_i)
-
 pub observation-observed-requires : goal.observation-observed-requires
 observation-observed-requires c =
     let in_loop_i = (goal.at.observation-observed-requires c).In-loop-i in
@@ -106,15 +98,6 @@ observation-observed-requires c =
       there = there in_loop_i;
       start_is = starts_at c.requires.starts_are (i in_loop_i) (year_few in_loop_i) (years in_loop_i);
     }
-
-pub overflow_mul-k : goal.overflow_mul-k
-overflow_mul-k c = omega (arith, mark_inside (goal.at.overflow_mul-k c).In-loop-i)
-
-pub overflow_add-k : goal.overflow_add-k
-overflow_add-k c = omega (arith, mark_inside (goal.at.overflow_add-k c).In-loop-i)
-
-pub bounds-struck-k : goal.bounds-struck-k
-bounds-struck-k c = mark_inside (goal.at.bounds-struck-k c).In-loop-i
 
 -- its weight and itself, as they are read
 module _ (c : After-step_weight) (variances : List ℕ) where
@@ -152,7 +135,7 @@ next : (c : After-weighed-total) (variances : List ℕ)
     → to_z w64 c.loop-i.total-bits +ℤ stored c.weighed-total.result
     ≡ sum (i (goal.at.overflow_add-total c).In-loop-i + 1) (terms (goal.at.overflow_add-total c).In-loop-i variances)
 next c variances =
-    ap₂ ◌+ℤ◌ (c.loop-i.invariant.1 variances)
+    ap₂ ◌+ℤ◌ (c.loop-i.invariant variances)
     (same _ c.weighed-total.type_inv
     ∙ c.weighed-total.ensures
     ∙ ap₂ (λ w z. pos w *ℤ z) (weight_is (goal.at.overflow_add-total c).After-step_weight variances)
@@ -162,25 +145,17 @@ next c variances =
 pub overflow_add-total : goal.overflow_add-total
 overflow_add-total c = fits (next c []) (next_small (goal.at.overflow_add-total c).In-loop-i [])
 
-pub overflow_add-i : goal.overflow_add-i
-overflow_add-i c =
-    let in_loop_i = (goal.at.overflow_add-i c).In-loop-i in
-    omega (arith, year_few in_loop_i, years in_loop_i)
-
-pub loop-i-smaller : goal.loop-i-smaller
-loop-i-smaller c = omega (arith, c.loop-i-test.true)
-
 pub loop-i-preserved : goal.loop-i-preserved
-loop-i-preserved c = (omega (arith, c.loop-i-test.true), λ variances. kept w64 (next c variances) (next_small (goal.at.loop-i-preserved c).In-loop-i variances))
+loop-i-preserved c = λ variances. kept w64 (next c variances) (next_small (goal.at.loop-i-preserved c).In-loop-i variances)
 
 pub returns : goal.returns
 returns c =
     let at = c.loop-i in
     let a = c.args in
-    let all : at.i ≡ steps_of a.last a.k = omega (arith, at.invariant.0, c.loop-i-test.false, c.steps_of-count.ensures) in
+    let all : at.i ≡ steps_of a.last a.k = omega (arith, c.steps_of-count.ensures) in
     record {
       is = λ variances.
-          at.invariant.1 variances
+          at.invariant variances
           ∙ ap₂ (λ n z. sum n (term a.ticks.now a.weights.now a.struck.now a.last a.k z variances)) all
           (to_z-of_z c.ranges.part);
     }

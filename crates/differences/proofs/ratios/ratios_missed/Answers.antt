@@ -25,7 +25,7 @@ use Rattle.differences.proofs.ratios.ratios_missed.Goals as goal
 use Rattle.differences.proofs.ratios.ratios_missed.Goals.{After-struct_told-in-loop-d-1, After-weighed-total, In-loop-d}
 
 pub loop-d-init : goal.loop-d-init
-loop-d-init c = (omega arith, λ variances struck. summed_none _)
+loop-d-init c = λ variances struck. summed_none _
 
 module _ (c : In-loop-d) where
   abbrev J : ℕ
@@ -70,12 +70,6 @@ module _ (c : In-loop-d) where
 
 pub overflow_sub-at : goal.overflow_sub-at
 overflow_sub-at c = omega (arith, more c)
-
-pub offset_bounds-starts-years : goal.offset_bounds-starts-years
-offset_bounds-starts-years c = omega (arith, years c)
-
-pub bounds-starts-years : goal.bounds-starts-years
-bounds-starts-years c = omega (arith, years (goal.at.bounds-starts-years c).In-loop-d)
 
 pub overflow_add-at : goal.overflow_add-at
 overflow_add-at c =
@@ -154,7 +148,7 @@ next : (c : After-weighed-total) (variances struck : List ℕ)
     → to_z w64 c.loop-d.total-bits +ℤ stored c.weighed-total.result
     ≡ sum (d (goal.at.overflow_add-total c).In-loop-d + 1) (terms (goal.at.overflow_add-total c).In-loop-d variances struck)
 next c variances struck =
-    ap₂ ◌+ℤ◌ (c.loop-d.invariant.1 variances struck).at_hand
+    ap₂ ◌+ℤ◌ (c.loop-d.invariant variances struck).at_hand
     (same _ c.weighed-total.type_inv
     ∙ c.weighed-total.ensures
     ∙ ap₂ (λ w z. pos w *ℤ z) (weight_is (goal.at.overflow_add-total c).After-struct_told-in-loop-d-1 variances struck)
@@ -166,31 +160,11 @@ next c variances struck =
 pub overflow_add-total : goal.overflow_add-total
 overflow_add-total c = fits (next c [] []) (next_small (goal.at.overflow_add-total c).In-loop-d [] [])
 
-pub overflow_add-d : goal.overflow_add-d
-overflow_add-d c =
-    let in_loop_d = (goal.at.overflow_add-d c).In-loop-d in
-    omega (arith, more in_loop_d, years in_loop_d)
-
-pub offset_bounds-sums-d : goal.offset_bounds-sums-d
-offset_bounds-sums-d c =
-    let in_loop_d = (goal.at.offset_bounds-sums-d c).In-loop-d in
-    omega (arith, more in_loop_d, years in_loop_d)
-
-pub bounds-sums-d : goal.bounds-sums-d
-bounds-sums-d c =
-    let in_loop_d = (goal.at.bounds-sums-d c).In-loop-d in
-    omega (arith, more in_loop_d, years in_loop_d)
-
-pub loop-d-smaller : goal.loop-d-smaller
-loop-d-smaller c = omega (arith, more (goal.at.loop-d-smaller c).In-loop-d)
-
 pub loop-d-preserved : goal.loop-d-preserved
 loop-d-preserved c =
-    let in_loop_d = (goal.at.loop-d-preserved c).In-loop-d in (
-      omega (arith, more in_loop_d),
-      λ variances struck. summed_next (c.loop-d.invariant.1 variances struck) (omega (arith, more in_loop_d, years in_loop_d))
-          (kept w64 (next c variances struck) (next_small in_loop_d variances struck)),
-    )
+    let in_loop_d = (goal.at.loop-d-preserved c).In-loop-d in
+    λ variances struck. summed_next (c.loop-d.invariant variances struck) (omega (arith, more in_loop_d, years in_loop_d))
+    (kept w64 (next c variances struck) (next_small in_loop_d variances struck))
 
 pub returns : goal.returns
-returns c = record { are = λ variances struck n few. (c.loop-d.invariant.1 variances struck).there n (omega (arith, c.loop-d-test.false)) }
+returns c = record { are = λ variances struck n few. (c.loop-d.invariant variances struck).there n (omega arith) }

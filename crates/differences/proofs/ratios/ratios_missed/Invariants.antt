@@ -1,5 +1,5 @@
 -- `ratios_missed` meets its contract. The loop's invariant: the sums up to development year d are there.
-use Prim.Native.Nat.{ℕ, ◌-◌, ◌≤◌}
+use Prim.Native.Nat.{ℕ}
 use mathlib.Core.List.{List}
 use lib.IntN.{ℤ}
 use Rattle.laws.specs.RunningSums.{Summed}
@@ -13,7 +13,4 @@ term ticks weights mean last variances struck = ratio_term (left_in last (observ
 
 abbrev pub invariant-loop-d : goal.invariant-loop-d
 invariant-loop-d l =
-    (l.d ≤ l.years) × ((variances struck : List ℕ) → Summed l.d (term l.ticks l.weights l.mean l.last variances struck) (l.total) l.sums)
-
-abbrev pub decreases-loop-d : goal.decreases-loop-d
-decreases-loop-d l = l.years - l.d
+    (variances struck : List ℕ) → Summed l.d (term l.ticks l.weights l.mean l.last variances struck) (l.total) l.sums
