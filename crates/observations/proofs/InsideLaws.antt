@@ -1,25 +1,16 @@
--- `log_within` by its tests, and that what is brought inside stays there.
+-- `log_within` as the library's clamp, and that what is brought inside stays there.
 use Rattle.std.specs.Prelude.{ℕ, ◌^◌, ◌≤◌, ◌≡◌, refl, Bool, true, false, cond, ℤ, pos, negsuc, nat_abs, ltb}
 use Rattle.std.proofs.Common.{ap, true≢false, arith, ltb-true, ltb-false}
-use Rattle.std.specs.Int.Signed.{lt_z}
+use Rattle.std.specs.Int.{int_max, int_min}
+use Rattle.std.proofs.lemmas.Int.{ints, clamps}
 use Rattle.laws.specs.Chains.{observed_limit}
 use Rattle.observations.specs.Arrays.{log_within}
 use Rattle.observations.specs.Inside.{least_weight, most_weight}
 
-pub log_below : (z : ℤ) → lt_z z (pos 0) ≡ true → log_within z ≡ pos 0
+pub log_clamped : (z : ℤ) → int_max (pos 0) (int_min z (pos observed_limit)) ≡ log_within z
 unfolding log_within
-log_below (pos n) h = absurd (omega (arith, ltb-true n 0 h))
-log_below (negsuc n) h = refl
-
-pub log_above : (z : ℤ) → lt_z z (pos 0) ≡ false → lt_z (pos observed_limit) z ≡ true → log_within z ≡ pos observed_limit
-unfolding log_within
-log_above (pos n) h above = let past = ltb-true observed_limit n above in ap pos (omega (arith, past))
-log_above (negsuc n) h above = absurd (true≢false h)
-
-pub log_inside : (z : ℤ) → lt_z z (pos 0) ≡ false → lt_z (pos observed_limit) z ≡ false → log_within z ≡ z
-unfolding log_within
-log_inside (pos n) h above = let to = ltb-false observed_limit n above in ap pos (omega (arith, to))
-log_inside (negsuc n) h above = absurd (true≢false h)
+log_clamped (pos n) = omega (arith, ints, clamps)
+log_clamped (negsuc n) = omega (arith, ints, clamps)
 
 pub log_small : (z : ℤ) → nat_abs (log_within z) ≤ observed_limit
 unfolding log_within

@@ -11,7 +11,9 @@ ghost use Rattle.observations.specs.Inside.{
   MarksInside,
 };
 
-use arithmetic::limits::{brought_back, brought_within};
+use crate::kept::{MOST_RATIO_WEIGHT, MOST_WEIGHT};
+use crate::{PRIOR_MEANS, RATIO_WEIGHTS};
+use arithmetic::limits::brought_back;
 
 const LOGARITHM_LIMIT: i64 = 46_137_344;
 
@@ -19,20 +21,14 @@ const LOGARITHM_LIMIT: i64 = 46_137_344;
 pub fn logarithm_within(z: i64) -> i64
     ensures { result ≡ log_within z }
 {
-    if z < 0 {
-        0
-    } else if LOGARITHM_LIMIT < z {
-        LOGARITHM_LIMIT
-    } else {
-        z
-    }
+    z.clamp(0, LOGARITHM_LIMIT)
 }
 
 // The number at place c: a logarithm, or behind them a prior mean.
 fn tick_within(c: usize, z: i64) -> i64
     ensures { result ≡ tick_within c z }
 {
-    if c < 272 {
+    if c < PRIOR_MEANS {
         logarithm_within(z)
     } else {
         brought_back(z)
@@ -59,7 +55,11 @@ fn least_weight(n: usize, c: usize) -> u64
 fn most_weight(c: usize) -> u64
     ensures { result ≡ most_weight c }
 {
-    if c < 62 { 268435456 } else { 134217728 }
+    if c < RATIO_WEIGHTS {
+        MOST_WEIGHT
+    } else {
+        MOST_RATIO_WEIGHT
+    }
 }
 
 // Of n parts.
@@ -69,7 +69,7 @@ pub fn weights_inside(weights: &[u64; 77], n: usize) -> [u64; 77]
 {
     let mut inside = [0u64; 77];
     for c in 0..77 {
-        inside[c] = brought_within(least_weight(n, c), most_weight(c), weights[c]);
+        inside[c] = weights[c].clamp(least_weight(n, c), most_weight(c));
     }
     inside
 }

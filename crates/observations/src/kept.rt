@@ -7,16 +7,23 @@ ghost use Rattle.observations.specs.Arrays.{at, mean_at, prior_at, ratio_at, bro
 
 use crate::inside::logarithm_within;
 use crate::{PRIOR_MEANS, PRIOR_WEIGHTS, RATIO_WEIGHTS};
-use arithmetic::limits::{brought_back, brought_within};
+use arithmetic::limits::brought_back;
 use scales::{Ticks, Variance, Weight};
+
+const LEAST_VARIANCE: u64 = 1 << 18;
+
+const MOST_VARIANCE: u64 = 1 << 40;
+
+pub(crate) const MOST_WEIGHT: u64 = 1 << 28;
+
+pub(crate) const MOST_RATIO_WEIGHT: u64 = 1 << 27;
 
 // The logarithm of cell c.
 pub fn kept_logarithm(ticks: &[i64; 303], c: usize) -> Ticks
     requires { c < 272 }
     ensures { result.0 ≡ log_within (part ticks.now c) }
 {
-    let kept = ticks[c];
-    Ticks(logarithm_within(kept))
+    Ticks(logarithm_within(ticks[c]))
 }
 
 // The variance of part k.
@@ -24,7 +31,7 @@ pub fn kept_variance(variances: &[u64; 31], k: usize) -> Variance
     requires { k < 31 }
     ensures { result.0 ≡ brought_within (2 ^ 18) (2 ^ 40) (at variances.now k) }
 {
-    Variance(brought_within(262144, 1099511627776, variances[k]))
+    Variance(variances[k].clamp(LEAST_VARIANCE, MOST_VARIANCE))
 }
 
 // The prior mean of part k.
@@ -32,8 +39,7 @@ pub fn kept_prior_mean(ticks: &[i64; 303], k: usize) -> Ticks
     requires { k < 31 }
     ensures { result.0 ≡ bring_back (mean_at ticks.now k) }
 {
-    let kept = ticks[PRIOR_MEANS + k];
-    Ticks(brought_back(kept))
+    Ticks(brought_back(ticks[PRIOR_MEANS + k]))
 }
 
 // The weight of each of part k's observations.
@@ -41,7 +47,7 @@ pub fn kept_weight(weights: &[u64; 77], k: usize) -> Weight
     requires { k < 31 }
     ensures { result.0 ≡ brought_within 1 (2 ^ 28) (at weights.now k) }
 {
-    Weight(brought_within(1, 268435456, weights[k]))
+    Weight(weights[k].clamp(1, MOST_WEIGHT))
 }
 
 // That of its prior.
@@ -49,7 +55,7 @@ pub fn kept_prior_weight(weights: &[u64; 77], k: usize) -> Weight
     requires { k < 31 }
     ensures { result.0 ≡ brought_within 0 (2 ^ 28) (prior_at weights.now k) }
 {
-    Weight(brought_within(0, 268435456, weights[PRIOR_WEIGHTS + k]))
+    Weight(weights[PRIOR_WEIGHTS + k].min(MOST_WEIGHT))
 }
 
 // That of the ratio of development year d.
@@ -57,5 +63,5 @@ pub fn kept_ratio_weight(weights: &[u64; 77], d: usize) -> Weight
     requires { d < 15 }
     ensures { result.0 ≡ brought_within 0 (2 ^ 27) (ratio_at weights.now d) }
 {
-    Weight(brought_within(0, 134217728, weights[RATIO_WEIGHTS + d]))
+    Weight(weights[RATIO_WEIGHTS + d].min(MOST_RATIO_WEIGHT))
 }

@@ -17,14 +17,10 @@ fn four_cells<'a>(ticks: &'a mut [i64; 303], file: &'a [u8], c: usize)
         amount_of(file, c + 2),
         amount_of(file, c + 3),
     );
-    let first = four.first.0;
-    let second = four.second.0;
-    let third = four.third.0;
-    let fourth = four.fourth.0;
-    ticks[c] = first;
-    ticks[c + 1] = second;
-    ticks[c + 2] = third;
-    ticks[c + 3] = fourth;
+    ticks[c] = four.first.0;
+    ticks[c + 1] = four.second.0;
+    ticks[c + 2] = four.third.0;
+    ticks[c + 3] = four.fourth.0;
 }
 
 // By cell, paid block first.

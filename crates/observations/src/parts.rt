@@ -5,7 +5,7 @@ ghost use Rattle.observations.specs.Reading.{OfPart, OfParts, PartsTo, Parts};
 use crate::{PRIOR_MEANS, PRIOR_WEIGHTS};
 use layout::places::{last_year, parts_of};
 use readings::{prior_mean, prior_variance, variance_of};
-use scales::{Variance, weight_of};
+use scales::weight_of;
 
 fn read_part<'a>(
     ticks: &'a mut [i64; 303],
@@ -17,15 +17,11 @@ fn read_part<'a>(
     requires { OfPart k file.now ticks.old weights.old variances.old }
     ensures { PartsTo (k + 1) file.now ticks.new weights.new variances.new }
 {
-    let variance = variance_of(file, k).0;
-    let weight = weight_of(Variance(variance));
-    let prior = weight_of(prior_variance(file, k));
-    let mean = prior_mean(file, k);
-    let start = mean.0;
-    variances[k] = variance;
-    weights[k] = weight.0;
-    weights[PRIOR_WEIGHTS + k] = prior.0;
-    ticks[PRIOR_MEANS + k] = start;
+    let variance = variance_of(file, k);
+    variances[k] = variance.0;
+    weights[k] = weight_of(variance).0;
+    weights[PRIOR_WEIGHTS + k] = weight_of(prior_variance(file, k)).0;
+    ticks[PRIOR_MEANS + k] = prior_mean(file, k).0;
 }
 
 pub fn read_parts<'a>(

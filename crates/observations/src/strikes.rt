@@ -1,5 +1,5 @@
 // The marks of struck steps: that of part k and accident year i is at 16·k + i, and not 0 where the step is struck.
-ghost use Rattle.std.specs.Prelude.{◌≡◌, cond, eqb};
+ghost use Rattle.std.specs.Prelude.{◌≡◌};
 ghost use Rattle.definitions.specs.Kept.{steps_of};
 ghost use Rattle.observations.specs.Arrays.{unmarked};
 ghost use Rattle.observations.specs.Strikes.{OfPartIndex, OfSteps, OfYears, LeftIn};
@@ -17,23 +17,13 @@ pub fn steps_of(last: u8, k: usize) -> usize
     }
 }
 
-// One for a step that is not struck.
-fn left(mark: u8) -> u64
-    ensures { result ≡ cond (eqb mark 0) 1 0 }
-{
-    if mark == 0 { 1 } else { 0 }
-}
-
 // How many of a part's first n steps are left.
 pub fn left_of(struck: &[u8; 496], k: usize, n: usize) -> u64
     requires { OfSteps k n }
     ensures { result ≡ unmarked struck.now k n }
 {
-    let mut count = 0u64;
-    for i in 0..n {
-        count += left(struck[16 * k + i]);
-    }
-    count
+    let marks = &struck[16 * k..16 * k + n];
+    marks.iter().filter(|mark| **mark == 0).count() as u64
 }
 
 // How many steps of each part are left.

@@ -3,8 +3,8 @@ use mathlib.Core.Path.{refl}
 use borrow.Author.Tests.{lt-ltb, le-ltb}
 use Rattle.observations.proofs.inside.most_weight.Goals as goal
 
-pub returns-then-c-lt62 : goal.returns-then-c-lt62
-returns-then-c-lt62 c = rw (lt-ltb _ 62 c.if-c-lt62.true) refl
+pub returns-then-c-lt-RATIO_WEIGHTS : goal.returns-then-c-lt-RATIO_WEIGHTS
+returns-then-c-lt-RATIO_WEIGHTS c = rw (lt-ltb _ 62 c.if-c-lt-RATIO_WEIGHTS.true) refl
 
-pub returns-else-c-lt62 : goal.returns-else-c-lt62
-returns-else-c-lt62 c = rw (le-ltb _ 62 c.if-c-lt62.false) refl
+pub returns-else-c-lt-RATIO_WEIGHTS : goal.returns-else-c-lt-RATIO_WEIGHTS
+returns-else-c-lt-RATIO_WEIGHTS c = rw (le-ltb _ 62 c.if-c-lt-RATIO_WEIGHTS.false) refl
