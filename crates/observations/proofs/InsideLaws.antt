@@ -1,6 +1,6 @@
 -- `log_within` as the library's clamp, and that what is brought inside stays there.
-use Rattle.std.specs.Prelude.{ℕ, ◌^◌, ◌≤◌, ◌≡◌, refl, Bool, true, false, cond, ℤ, pos, negsuc, nat_abs, ltb}
-use Rattle.std.proofs.Common.{ap, true≢false, arith, ltb-true, ltb-false}
+use Rattle.std.specs.Prelude.{ℕ, ◌^◌, ◌≤◌, ◌≡◌, Bool, true, false, cond, ℤ, pos, negsuc, nat_abs, ltb}
+use Rattle.std.proofs.Common.{arith}
 use Rattle.std.specs.Int.{int_max, int_min}
 use Rattle.std.proofs.lemmas.Int.{ints, clamps}
 use Rattle.laws.specs.Chains.{observed_limit}

@@ -9,7 +9,5 @@ pub fn start_mean<'a>(mean: &'a mut [i64; 31], ticks: &'a [i64; 303], last: u8)
 {
     let count = 2 * (last as usize) + 1;
     *mean = [0; 31];
-    for k in 0..count {
-        mean[k] = ticks[PRIOR_MEANS + k];
-    }
+    mean[..count].copy_from_slice(&ticks[PRIOR_MEANS..PRIOR_MEANS + count]);
 }
