@@ -5,7 +5,7 @@
 ghost use Rattle.figures.specs.Gathered.{OfObservations, FiguresOf};
 
 use crate::matrix::fill_matrix;
-use crate::right_hand::{column_sums, ratio_sums, right_hand_of};
+use crate::right_hand::{Columns, right_hand_of};
 use crate::weights::{own_weights, shares};
 use observations::strikes::left_in;
 use row_starts::starts_of;
@@ -31,9 +31,14 @@ pub fn figures_in<'a>(
     let left = left_in(struck, last);
     let weighed = own_weights(weights, &left, last);
     let shared = shares(weights, last);
-    let starts = starts_of(last);
-    let sums = column_sums(ticks, &starts, struck, last);
-    let ratios = ratio_sums(weights, ticks, &starts, last);
+    let columns = Columns {
+        ticks,
+        starts: starts_of(last),
+        struck,
+        last,
+    };
+    let sums = columns.column_sums();
+    let ratios = columns.ratio_sums(weights);
     let targets = right_hand_of(weights, ticks, &sums, &ratios, last);
     fill_matrix(matrix, &weighed, &shared, last);
     *own = weighed;

@@ -27,117 +27,91 @@ fn counted(mark: u8, step: i64) -> i64
     if mark == 0 { step } else { 0 }
 }
 
-// Σ over the accident years of the step from a column of a block to the next: the next cell's logarithm less the cell's. They are
-// the observations of part k.
-fn step_sum<'a>(
-    ticks: &'a [i64; 303],
-    starts: &'a [usize; 16],
-    struck: &'a [u8; 496],
-    last: u8,
-    block: usize,
-    column: usize,
-    k: usize,
-) -> i64
-    requires { OfSteps ticks.now starts.now last block column k }
-    ensures { result ≡ step_sum ticks.now struck.now last block column k }
-{
-    let count = last as usize - column;
-    let mut total = 0i64;
-    for i in 0..count {
-        let at = block + (starts[i] + column);
-        let step = ticks[at + 1] - ticks[at];
-        total += counted(struck[16 * k + i], step);
-    }
-    total
+// What the sums of observations go over. Cell c of the two blocks has the logarithm c.
+#[derive(Drop)]
+pub struct Columns<'a> {
+    pub ticks: &'a [i64; 303],
+    // Of the rows of a block.
+    pub starts: [usize; 16],
+    pub struck: &'a [u8; 496],
+    pub last: u8,
+    pub ghost of_rows: { OfRows ticks.now starts last },
 }
 
-// Σ of the logarithms of each year's first paid amount.
-fn start_sum<'a>(
-    ticks: &'a [i64; 303],
-    starts: &'a [usize; 16],
-    struck: &'a [u8; 496],
-    last: u8,
-) -> i64
-    requires { OfRows ticks.now starts.now last }
-    ensures { result ≡ start_sum ticks.now struck.now last }
-{
-    let count = last as usize + 1;
-    let mut total = 0i64;
-    for i in 0..count {
-        total += counted(struck[i], ticks[starts[i]]);
+impl<'a> Columns<'a> {
+    // Σ over the accident years of the step from a column of a block to the next: the next cell's logarithm less the cell's. They are
+    // the observations of part k.
+    fn step_sum(&self, block: usize, column: usize, k: usize) -> i64
+        requires { OfSteps self.now.ticks.now self.now.starts self.now.last block column k }
+        ensures { result ≡ step_sum self.now.ticks.now self.now.struck.now self.now.last block column k }
+    {
+        let count = self.last as usize - column;
+        let mut total = 0i64;
+        for i in 0..count {
+            let at = block + (self.starts[i] + column);
+            let step = self.ticks[at + 1] - self.ticks[at];
+            total += counted(self.struck[16 * k + i], step);
+        }
+        total
     }
-    total
-}
 
-// Σ of a part's own observations.
-fn column_sum<'a>(
-    ticks: &'a [i64; 303],
-    starts: &'a [usize; 16],
-    struck: &'a [u8; 496],
-    last: u8,
-    k: usize,
-) -> i64
-    requires { OfColumn ticks.now starts.now last k }
-    ensures { result ≡ column_sum ticks.now struck.now last k }
-{
-    if k == 0 {
-        return start_sum(ticks, starts, struck, last);
+    // Σ of the logarithms of each year's first paid amount.
+    fn start_sum(&self) -> i64
+        ensures { result ≡ start_sum self.now.ticks.now self.now.struck.now self.now.last }
+    {
+        let count = self.last as usize + 1;
+        let mut total = 0i64;
+        for i in 0..count {
+            total += counted(self.struck[i], self.ticks[self.starts[i]]);
+        }
+        total
     }
-    let years = last as usize;
-    if k <= years {
-        return step_sum(ticks, starts, struck, last, 0, k - 1, k);
-    }
-    step_sum(
-        ticks,
-        starts,
-        struck,
-        last,
-        cells_of(last),
-        k - years - 1,
-        k,
-    )
-}
 
-// Those of every part.
-pub fn column_sums<'a>(
-    ticks: &'a [i64; 303],
-    starts: &'a [usize; 16],
-    struck: &'a [u8; 496],
-    last: u8,
-) -> [i64; 31]
-    requires { OfRows ticks.now starts.now last }
-    ensures { ColumnSums ticks.now struck.now last result }
-{
-    let count = 2 * (last as usize) + 1;
-    let mut sums = [0i64; 31];
-    for k in 0..count {
-        sums[k] = column_sum(ticks, starts, struck, last, k);
+    // Σ of a part's own observations.
+    fn column_sum(&self, k: usize) -> i64
+        requires { OfColumn self.now.ticks.now self.now.starts self.now.last k }
+        ensures { result ≡ column_sum self.now.ticks.now self.now.struck.now self.now.last k }
+    {
+        let years = self.last as usize;
+        if k == 0 {
+            self.start_sum()
+        } else if k <= years {
+            self.step_sum(0, k - 1, k)
+        } else {
+            self.step_sum(cells_of(self.last), k - years - 1, k)
+        }
     }
-    sums
-}
 
-// The sums of g times y over the first n development years, for n = 0..J. Development year d is the last one of the accident
-// year J − d.
-pub fn ratio_sums<'a>(
-    weights: &'a [u64; 77],
-    ticks: &'a [i64; 303],
-    starts: &'a [usize; 16],
-    last: u8,
-) -> [i64; 16]
-    requires { OfRatios weights.now ticks.now starts.now last }
-    ensures { RatioSums weights.now ticks.now last result }
-{
-    let years = last as usize;
-    let cells = cells_of(last);
-    let mut sums = [0i64; 16];
-    let mut total = 0i64;
-    for d in 0..years {
-        let year = years - d;
-        let at = starts[year] + d;
-        total += weights[RATIO_WEIGHTS + d] as i64 * (ticks[cells + at] - ticks[at]);
-        sums[d + 1] = total;
+    // Those of every part.
+    pub fn column_sums(&self) -> [i64; 31]
+        ensures { ColumnSums self.now.ticks.now self.now.struck.now self.now.last result }
+    {
+        let count = 2 * (self.last as usize) + 1;
+        let mut sums = [0i64; 31];
+        for k in 0..count {
+            sums[k] = self.column_sum(k);
+        }
+        sums
     }
-    sums
+
+    // The sums of g times y over the first n development years, for n = 0..J. Development year d is the last one of the accident
+    // year J − d.
+    pub fn ratio_sums(&self, weights: &[u64; 77]) -> [i64; 16]
+        requires { OfRatios weights.now self.now.ticks.now self.now.starts self.now.last }
+        ensures { RatioSums weights.now self.now.ticks.now self.now.last result }
+    {
+        let years = self.last as usize;
+        let cells = cells_of(self.last);
+        let mut sums = [0i64; 16];
+        let mut total = 0i64;
+        for d in 0..years {
+            let year = years - d;
+            let at = self.starts[year] + d;
+            total += weights[RATIO_WEIGHTS + d] as i64 * (self.ticks[cells + at] - self.ticks[at]);
+            sums[d + 1] = total;
+        }
+        sums
+    }
 }
 
 // One part's right-hand side: its prior, its own observations, and the ratios that it shares in, which count against a Ψ.
@@ -156,9 +130,10 @@ fn right_hand_at<'a>(
     let own = prior + weights[k] as i64 * sums[k];
     let shared = ratios[rank_of(last, k)];
     if k <= last as usize {
-        return own + shared;
+        own + shared
+    } else {
+        own - shared
     }
-    own - shared
 }
 
 pub fn right_hand_of<'a>(

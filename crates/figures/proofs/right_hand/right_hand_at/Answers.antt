@@ -157,7 +157,7 @@ overflow_sub-result c =
     let after_rank_of = (goal.at.overflow_sub-result c).After-rank_of in
     fits (subtracted after_rank_of) (subtracted_small after_rank_of)
 
-pub returns : goal.returns
-returns c =
-    let after_rank_of = (goal.at.returns c).After-rank_of in
+pub returns-else-k-last : goal.returns-else-k-last
+returns-else-k-last c =
+    let after_rank_of = (goal.at.returns-else-k-last c).After-rank_of in
     kept w64 (subtracted after_rank_of) (subtracted_small after_rank_of) ∙ target_psi _ _ _ _ _ _ c.if-k-last.false

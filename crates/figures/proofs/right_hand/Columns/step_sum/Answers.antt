@@ -1,4 +1,4 @@
--- `figures::right_hand::step_sum` meets its contract. The loop's invariant: the total is that of the years before i.
+-- `figures::right_hand::Columns::step_sum` meets its contract. The loop's invariant: the total is that of the years before i.
 use Prim.Native.Nat.{ℕ, ◌+◌, ◌*◌, ◌-◌, ◌^◌, ◌≤◌, ◌<◌}
 use mathlib.Core.Path.{◌≡◌, sym, ap, ap₂, ◌∙◌}
 use mathlib.Core.Bool.{cond}
@@ -17,8 +17,8 @@ use Rattle.observations.specs.Arrays
 use Rattle.observations.specs.Arrays.{mark_at}
 use Rattle.figures.specs.Sums.{Logs, step_of, counted_at, step_sum}
 use Rattle.figures.specs.SumLaws.{row_at, step_inside, step_small, sum_small, counted_small}
-use Rattle.figures.proofs.right_hand.step_sum.Goals as goal
-use Rattle.figures.proofs.right_hand.step_sum.Goals.{After-counted-total, In-loop-i}
+use Rattle.figures.proofs.right_hand.Columns.step_sum.Goals as goal
+use Rattle.figures.proofs.right_hand.Columns.step_sum.Goals.{After-counted-total, In-loop-i}
 
 pub overflow_sub-count : goal.overflow_sub-count
 overflow_sub-count c = omega (arith, c.requires.before_last)
@@ -32,13 +32,13 @@ module _ (c : In-loop-i) where
   i = c.loop-i.i
 
   abbrev J : ℕ
-  J = c.args.last
+  J = c.args.self.now.last
 
   abbrev at : ℕ
-  at = c.args.block + (Arrays.at c.args.starts.now i + c.args.column)
+  at = c.args.block + (Arrays.at c.args.self.now.starts i + c.args.column)
 
   abbrev logs : List ℤ
-  logs = c.args.ticks.now
+  logs = c.args.self.now.ticks.now
 
   abbrev small : Logs logs J
   small = c.requires.of_rows.logs_small
@@ -49,7 +49,7 @@ module _ (c : In-loop-i) where
   more : i < J - c.args.column
   more = c.loop-i-test.true
 
-  cell_is : Arrays.at c.args.starts.now i + c.args.column ≡ row_start J i + c.args.column
+  cell_is : Arrays.at c.args.self.now.starts i + c.args.column ≡ row_start J i + c.args.column
   cell_is = ap (λ n. n + c.args.column) (row_at c.requires.of_rows i (omega (arith, more)))
 
   at_is : at ≡ c.args.block + (row_start J i + c.args.column)
@@ -76,12 +76,12 @@ module _ (c : In-loop-i) where
   next_step = omega (arith, steps_small i more)
 
   abbrev counts : ℕ → ℤ
-  counts = counted_at c.args.struck.now c.args.k step_at
+  counts = counted_at c.args.self.now.struck.now c.args.k step_at
 
   next_small : nat_abs (sum (i + 1) counts) < 2 ^ 63
   next_small =
       sum_small (i + 1) counts (omega (arith, more, small.few))
-      (λ y below. counted_small c.args.struck.now c.args.k step_at y (omega (arith, steps_small y (omega (arith, more)))))
+      (λ y below. counted_small c.args.self.now.struck.now c.args.k step_at y (omega (arith, steps_small y (omega (arith, more)))))
 
   mark_inside : 16 * c.args.k + i < 496
   mark_inside = omega (arith, more, small.few, c.requires.of_part)
@@ -100,7 +100,7 @@ next c =
     ap₂ ◌+ℤ◌ c.loop-i.invariant
     (same c.counted-total.result c.counted-total.type_inv
     ∙ c.counted-total.ensures
-    ∙ ap (cond (mark_at a.struck.now a.k (i (goal.at.overflow_add-total c).In-loop-i)) (pos 0))
+    ∙ ap (cond (mark_at a.self.now.struck.now a.k (i (goal.at.overflow_add-total c).In-loop-i)) (pos 0))
     (kept w64 (step (goal.at.overflow_add-total c).In-loop-i) (next_step (goal.at.overflow_add-total c).In-loop-i)))
     ∙ sym (sum_next (i (goal.at.overflow_add-total c).In-loop-i) (counts (goal.at.overflow_add-total c).In-loop-i))
 
@@ -115,5 +115,5 @@ unfolding step_sum
 returns c =
     let l = c.loop-i in
     let a = c.args in
-    let all : l.i ≡ a.last - a.column = omega arith in
-    l.invariant ∙ ap (λ m. sum m (counted_at a.struck.now a.k (step_of a.ticks.now a.last a.block a.column))) all
+    let all : l.i ≡ a.self.now.last - a.column = omega arith in
+    l.invariant ∙ ap (λ m. sum m (counted_at a.self.now.struck.now a.k (step_of a.self.now.ticks.now a.self.now.last a.block a.column))) all

@@ -1,4 +1,4 @@
--- `figures::right_hand::start_sum` meets its contract. The loop's invariant: the total is that of the years before i.
+-- `figures::right_hand::Columns::start_sum` meets its contract. The loop's invariant: the total is that of the years before i.
 use Prim.Native.Nat.{ℕ, ◌+◌, ◌*◌, ◌^◌, ◌≤◌, ◌<◌}
 use mathlib.Core.Path.{◌≡◌, sym, ap, ap₂, ◌∙◌}
 use mathlib.Core.Bool.{not, cond}
@@ -17,8 +17,8 @@ use Rattle.integers.specs.Bits.{stored, read, same}
 use Rattle.observations.specs.Arrays
 use Rattle.figures.specs.Sums.{Logs, counted_at, start_sum}
 use Rattle.figures.specs.SumLaws.{row_at, sum_small, counted_small}
-use Rattle.figures.proofs.right_hand.start_sum.Goals as goal
-use Rattle.figures.proofs.right_hand.start_sum.Goals.{After-counted-total, In-loop-i}
+use Rattle.figures.proofs.right_hand.Columns.start_sum.Goals as goal
+use Rattle.figures.proofs.right_hand.Columns.start_sum.Goals.{After-counted-total, In-loop-i}
 
 pub loop-i-init : goal.loop-i-init
 loop-i-init c = sym (sum_zero _)
@@ -29,16 +29,16 @@ module _ (c : In-loop-i) where
   i = c.loop-i.i
 
   abbrev J : ℕ
-  J = c.args.last
+  J = c.args.self.now.last
 
   abbrev at : ℕ
-  at = Arrays.at c.args.starts.now i
+  at = Arrays.at c.args.self.now.starts i
 
   abbrev logs : List ℤ
-  logs = c.args.ticks.now
+  logs = c.args.self.now.ticks.now
 
   abbrev small : Logs logs J
-  small = c.requires.logs_small
+  small = c.args.self.now.of_rows.logs_small
 
   abbrev start : ℕ → ℤ
   start y = part logs (row_start J y)
@@ -47,7 +47,7 @@ module _ (c : In-loop-i) where
   more = c.loop-i-test.true
 
   at_is : at ≡ row_start J i
-  at_is = row_at c.requires i (omega (arith, more))
+  at_is = row_at c.args.self.now.of_rows i (omega (arith, more))
 
   starts_inside : (y : ℕ) → y ≤ J → row_start J y < 2 * cells J
   starts_inside y few = omega (arith, cell_below J y 0 (omega arith))
@@ -62,12 +62,12 @@ module _ (c : In-loop-i) where
   log = read (part logs at) (omega (arith, small.small at inside)) ∙ ap (part logs) at_is
 
   abbrev counts : ℕ → ℤ
-  counts = counted_at c.args.struck.now 0 start
+  counts = counted_at c.args.self.now.struck.now 0 start
 
   next_small : nat_abs (sum (i + 1) counts) < 2 ^ 63
   next_small =
       sum_small (i + 1) counts (omega (arith, more, small.few))
-      (λ y below. counted_small c.args.struck.now 0 start y
+      (λ y below. counted_small c.args.self.now.struck.now 0 start y
       (omega (arith, small.small (row_start J y) (starts_inside y (omega (arith, more))))))
 
 -- with the next logarithm, where it counts
@@ -75,7 +75,7 @@ next : (c : After-counted-total)
     → to_z w64 c.loop-i.total-bits +ℤ stored c.counted-total.result
     ≡ sum (i (goal.at.overflow_add-total c).In-loop-i + 1) (counts (goal.at.overflow_add-total c).In-loop-i)
 next c =
-    let struck = c.args.struck.now in
+    let struck = c.args.self.now.struck.now in
     ap₂ ◌+ℤ◌ c.loop-i.invariant
     (same c.counted-total.result c.counted-total.type_inv
     ∙ c.counted-total.ensures
@@ -97,5 +97,5 @@ unfolding start_sum
 returns c =
     let l = c.loop-i in
     let a = c.args in
-    let all : l.i ≡ a.last + 1 = omega arith in
-    l.invariant ∙ ap (λ m. sum m (counted_at a.struck.now 0 (λ y. part a.ticks.now (row_start a.last y)))) all
+    let all : l.i ≡ a.self.now.last + 1 = omega arith in
+    l.invariant ∙ ap (λ m. sum m (counted_at a.self.now.struck.now 0 (λ y. part a.self.now.ticks.now (row_start a.self.now.last y)))) all

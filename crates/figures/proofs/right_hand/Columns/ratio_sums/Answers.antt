@@ -1,4 +1,4 @@
--- `figures::right_hand::ratio_sums` meets its contract. The loop's invariant: the sums up to development year d are there.
+-- `figures::right_hand::Columns::ratio_sums` meets its contract. The loop's invariant: the sums up to development year d are there.
 use Prim.Native.Nat.{ℕ, ◌+◌, ◌*◌, ◌-◌, ◌^◌, ◌≤◌, ◌<◌}
 use mathlib.Core.Path.{◌≡◌, refl, sym, ap, ap₂, ◌∙◌}
 use mathlib.Core.List.{List}
@@ -18,8 +18,8 @@ use Rattle.laws.proofs.RunningSums.{summed_none, summed_next}
 use Rattle.figures.specs.Sums.{Logs, last_cell, ratio_of}
 use Rattle.figures.specs.SumLaws.{row_at, last_cell_below, ratio_of_small, sum_small}
 use mir.Facts.{to_z_pos}
-use Rattle.figures.proofs.right_hand.ratio_sums.Goals as goal
-use Rattle.figures.proofs.right_hand.ratio_sums.Goals.{In-loop-d}
+use Rattle.figures.proofs.right_hand.Columns.ratio_sums.Goals as goal
+use Rattle.figures.proofs.right_hand.Columns.ratio_sums.Goals.{In-loop-d}
 
 pub loop-d-init : goal.loop-d-init
 loop-d-init c = summed_none _
@@ -30,10 +30,10 @@ module _ (c : In-loop-d) where
   d = c.loop-d.d
 
   abbrev J : ℕ
-  J = c.args.last
+  J = c.args.self.now.last
 
   abbrev at : ℕ
-  at = Arrays.at c.args.starts.now (J - d) + d
+  at = Arrays.at c.args.self.now.starts (J - d) + d
 
   abbrev cell : ℕ
   cell = c.cells_of-cells.result
@@ -42,7 +42,7 @@ module _ (c : In-loop-d) where
   weight = Arrays.ratio_at c.args.weights.now
 
   abbrev logs : List ℤ
-  logs = c.args.ticks.now
+  logs = c.args.self.now.ticks.now
 
   abbrev small : Logs logs J
   small = c.requires.of_rows.logs_small

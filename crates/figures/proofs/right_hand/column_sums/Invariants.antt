@@ -1,8 +1,0 @@
--- `figures::right_hand::column_sums` meets its contract. The loop's invariant: the parts passed have their sums.
-use lib.IntN.{pos}
-use Rattle.laws.specs.Filled.{Filled}
-use Rattle.figures.specs.Sums.{column_sum}
-use Rattle.figures.proofs.right_hand.column_sums.Given as goal
-
-abbrev pub invariant-loop-k : goal.invariant-loop-k
-invariant-loop-k l = Filled 31 l.k (pos 0) (column_sum l.ticks l.struck l.last) l.sums
