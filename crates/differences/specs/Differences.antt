@@ -3,7 +3,7 @@
 use Rattle.std.specs.Prelude.{ℕ, ◌+◌, ◌-◌, ◌^◌, ◌≤◌, ◌<◌, ◌≡◌, List, ℤ, pos, nat_abs, ◌+ℤ◌, ◌-ℤ◌, ◌*ℤ◌}
 use Rattle.integers.specs.Sum.{sum}
 use Rattle.definitions.specs.Words.{part}
-use Rattle.definitions.specs.Layout.{parts, row_start}
+use Rattle.definitions.specs.Layout.{parts}
 use Rattle.definitions.specs.Refusals.{year_limit, part_limit}
 use Rattle.definitions.specs.Observations.{Chain}
 use Rattle.definitions.specs.Loss.{ratio}
@@ -13,7 +13,6 @@ use Rattle.definitions.specs.Strikes.{without}
 use Rattle.definitions.specs.Kept.{chain_in, steps_of, marked}
 use Rattle.laws.specs.Filled.{Filled}
 use Rattle.laws.specs.Ranks.{rank_of, sign_of}
-use Rattle.row_starts.specs.Starts.{Starts}
 use Rattle.observations.specs.declared.Observations.{Observations}
 use Rattle.observations.specs.Arrays.{log_within, observations_at, observed_in, struck_in}
 
@@ -59,28 +58,13 @@ pub record OfTerm (weight : ℕ) (part observed : ℤ) : Type 0 where
 
 -- ---- own observations
 
-pub record OfObservation (start last k i : ℕ) : Type 0 where
-  pub few : last ≤ year_limit
-  pub below : k < parts last
-  pub there : i < steps_of last k
-  pub start_is : start ≡ row_start last i
-
 pub record ObservationIs (ticks : List ℤ) (last k i : ℕ) (r : ℤ) : Type 0 where
   pub is : (weights variances struck : List ℕ)
       → r ≡ observation_of (left_in last (observations_at ticks weights variances struck)) (part_by_index last k) i
 
-pub record OfPrior (last k : ℕ) (v : ℤ) : Type 0 where
-  pub few : last ≤ year_limit
-  pub below : k < parts last
-  pub small : nat_abs v ≤ part_limit
-
 pub record PriorMissed (ticks : List ℤ) (weights : List ℕ) (last k : ℕ) (v r : ℤ) : Type 0 where
   pub is : (variances struck : List ℕ)
       → r ≡ prior_term (left_in last (observations_at ticks weights variances struck)) (part_by_index last k) v
-
-pub record OfSteps (starts : List ℕ) (last k : ℕ) (v : ℤ) : Type 0 where
-  pub of_part : OfPrior last k v
-  pub starts_are : Starts last starts
 
 pub record StepsMissed (ticks : List ℤ) (weights struck : List ℕ) (last k : ℕ) (v r : ℤ) : Type 0 where
   pub is : (variances : List ℕ)
@@ -97,11 +81,6 @@ pub record OfRatio (mean : List ℤ) (last d : ℕ) : Type 0 where
 abbrev pub ratio_from : List ℤ → ℕ → ℕ → ℤ
 ratio_from mean J d = sum (J - d) (λ n. part mean (d + 1 + n) -ℤ part mean (J + 1 + d + n))
 
-pub record OfRatios (starts : List ℕ) (mean : List ℤ) (last : ℕ) : Type 0 where
-  pub few : last ≤ year_limit
-  pub small : (k : ℕ) → k < parts last → nat_abs (part mean k) ≤ part_limit
-  pub starts_are : Starts last starts
-
 abbrev pub ratio_term : Chain → List ℤ → ℕ → ℤ
 ratio_term c mean d = pos (c.g d) *ℤ (ratio c (part mean) (c.last - d) -ℤ c.y (c.last - d))
 
@@ -110,10 +89,6 @@ pub record RatiosMissed (ticks : List ℤ) (weights : List ℕ) (mean : List ℤ
       → part r n ≡ sum n (ratio_term (left_in last (observations_at ticks weights variances struck)) mean)
 
 -- ---- residues
-
-pub record OfResidue (starts : List ℕ) (shared : List ℤ) (last k : ℕ) (v : ℤ) : Type 0 where
-  pub of_steps : OfSteps starts last k v
-  pub shared_small : (n : ℕ) → n ≤ last → nat_abs (part shared n) ≤ 2 ^ 62
 
 pub record ResidueAt (ticks : List ℤ) (weights struck : List ℕ) (shared : List ℤ) (last k : ℕ) (v r : ℤ) : Type 0 where
   pub is : (variances : List ℕ)

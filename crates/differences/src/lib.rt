@@ -2,38 +2,38 @@
 // in. No matrix is lent, and none is formed.
 #![tactic(auto)]
 
-ghost use Rattle.differences.specs.Differences.{OfResidue, ResidueAt, OfResidues, ResiduesOf};
+ghost use Rattle.std.specs.Prelude.{ℕ, ◌<◌, ◌≤◌, ◌^◌, nat_abs};
+ghost use Rattle.definitions.specs.Words.{part};
+ghost use Rattle.definitions.specs.Layout.{parts};
+ghost use Rattle.definitions.specs.Refusals.{part_limit};
+ghost use Rattle.differences.specs.Differences.{ResidueAt, OfResidues, ResiduesOf};
 
-use crate::own::{prior_missed, steps_missed};
-use crate::ratios::ratios_missed;
+use crate::kept::Kept;
 use row_starts::starts_of;
 
+mod kept;
 mod own;
 mod ratios;
 mod terms;
 
-// Of part k, which is `part`: its prior, its own observations, and the ratios that it stands in, which subtract a Ψ. `shared` has the sums
-// of the ratios of the first n development years.
-fn residue_at<'a>(
-    ticks: &'a [i64; 303],
-    weights: &'a [u64; 77],
-    struck: &'a [u8; 496],
-    starts: &'a [usize; 16],
-    shared: &'a [i64; 16],
-    last: u8,
-    k: usize,
-    part: i64,
-) -> i64
-    requires { OfResidue starts.now shared.now last k part }
-    ensures { ResidueAt ticks.now weights.now struck.now shared.now last k part result }
-{
-    let steps = steps_missed(ticks, weights, struck, starts, last, k, part);
-    let own = prior_missed(ticks, weights, last, k, part) + steps;
-    let years = last as usize;
-    if k <= years {
-        return own + shared[k];
+impl<'a> Kept<'a> {
+    // Of part k, which is `value`: its prior, its own observations, and the ratios that it stands in, which subtract a Ψ. `shared` has the
+    // sums of the ratios of the first n development years.
+    fn residue_at(&self, shared: &[i64; 16], k: usize, value: i64) -> i64
+        requires below { k < parts self.now.last }
+        requires small { nat_abs value ≤ part_limit }
+        requires shared_small { (n : ℕ) → n ≤ self.now.last → nat_abs (part shared.now n) ≤ 2 ^ 62 }
+        ensures { ResidueAt self.now.ticks.now self.now.weights.now self.now.struck.now shared.now self.now.last k value result }
+    {
+        let steps = self.steps_missed(k, value);
+        let own = self.prior_missed(k, value) + steps;
+        let years = self.last as usize;
+        if k <= years {
+            own + shared[k]
+        } else {
+            own - shared[k - years]
+        }
     }
-    own - shared[k - years]
 }
 
 pub fn residues_of<'a>(
@@ -47,11 +47,17 @@ pub fn residues_of<'a>(
     ensures { ResiduesOf ticks.now weights.now struck.now mean.now last result }
 {
     let count = 2 * (last as usize) + 1;
-    let starts = starts_of(last);
-    let shared = ratios_missed(ticks, weights, &starts, mean, last);
+    let kept = Kept {
+        ticks,
+        weights,
+        struck,
+        starts: starts_of(last),
+        last,
+    };
+    let shared = kept.ratios_missed(mean);
     let mut residues = [0i64; 31];
     for k in 0..count {
-        residues[k] = residue_at(ticks, weights, struck, &starts, &shared, last, k, mean[k]);
+        residues[k] = kept.residue_at(&shared, k, mean[k]);
     }
     residues
 }

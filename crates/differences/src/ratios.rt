@@ -1,7 +1,11 @@
 // What a mean misses the ratios of incurred to paid by.
-ghost use Rattle.std.specs.Prelude.{◌≡◌};
-ghost use Rattle.differences.specs.Differences.{OfRatio, ratio_from, OfRatios, RatiosMissed};
+ghost use Rattle.std.specs.Prelude.{◌≡◌, ℕ, ◌<◌, ◌≤◌, nat_abs};
+ghost use Rattle.definitions.specs.Words.{part};
+ghost use Rattle.definitions.specs.Layout.{parts};
+ghost use Rattle.definitions.specs.Refusals.{part_limit};
+ghost use Rattle.differences.specs.Differences.{OfRatio, ratio_from, RatiosMissed};
 
+use crate::kept::Kept;
 use crate::terms::weighed;
 use layout::places::cells_of;
 use observations::kept::{kept_logarithm, kept_ratio_weight};
@@ -20,29 +24,25 @@ fn ratio_of(mean: &[i64; 31], last: u8, d: usize) -> i64
     total
 }
 
-// Weight times difference, added up over the first n development years, for n = 0..J. Development year d is the last one of the accident
-// year J − d.
-pub fn ratios_missed<'a>(
-    ticks: &'a [i64; 303],
-    weights: &'a [u64; 77],
-    starts: &'a [usize; 16],
-    mean: &'a [i64; 31],
-    last: u8,
-) -> [i64; 16]
-    requires { OfRatios starts.now mean.now last }
-    ensures { RatiosMissed ticks.now weights.now mean.now last result }
-{
-    let years = last as usize;
-    let cells = cells_of(last);
-    let mut sums = [0i64; 16];
-    let mut total = 0i64;
-    for d in 0..years {
-        let at = starts[years - d] + d;
-        let incurred = kept_logarithm(ticks, cells + at);
-        let paid = kept_logarithm(ticks, at);
-        let weight = kept_ratio_weight(weights, d);
-        total += weighed(weight.0, ratio_of(mean, last, d), incurred.0 - paid.0);
-        sums[d + 1] = total;
+impl<'a> Kept<'a> {
+    // Weight times difference, added up over the first n development years, for n = 0..J. Development year d is the last one of the
+    // accident year J − d.
+    pub fn ratios_missed(&self, mean: &[i64; 31]) -> [i64; 16]
+        requires { (k : ℕ) → k < parts self.now.last → nat_abs (part mean.now k) ≤ part_limit }
+        ensures { RatiosMissed self.now.ticks.now self.now.weights.now mean.now self.now.last result }
+    {
+        let years = self.last as usize;
+        let cells = cells_of(self.last);
+        let mut sums = [0i64; 16];
+        let mut total = 0i64;
+        for d in 0..years {
+            let at = self.starts[years - d] + d;
+            let incurred = kept_logarithm(self.ticks, cells + at);
+            let paid = kept_logarithm(self.ticks, at);
+            let weight = kept_ratio_weight(self.weights, d);
+            total += weighed(weight.0, ratio_of(mean, self.last, d), incurred.0 - paid.0);
+            sums[d + 1] = total;
+        }
+        sums
     }
-    sums
 }

@@ -16,12 +16,11 @@ use Rattle.differences.proofs.DifferenceLaws.{ratios_small, residue_is}
 use Rattle.differences.proofs.residues_of.Goals as goal
 use Rattle.differences.proofs.residues_of.Goals.{After-residue_at, In-loop-k}
 
-pub starts_of-starts-requires : goal.starts_of-starts-requires
-starts_of-starts-requires c = c.requires.few
+pub starts_of-requires : goal.starts_of-requires
+starts_of-requires c = c.requires.few
 
 pub ratios_missed-shared-requires : goal.ratios_missed-shared-requires
-ratios_missed-shared-requires c =
-    record { few = c.requires.few; small = c.requires.small; starts_are = c.starts_of-starts.ensures }
+ratios_missed-shared-requires c = c.requires.small
 
 pub loop-k-init : goal.loop-k-init
 loop-k-init c = λ variances. filled_none 31 (pos 0) _
@@ -53,10 +52,8 @@ pub residue_at-requires : goal.residue_at-requires
 residue_at-requires c =
     let in_loop_k = (goal.at.residue_at-requires c).In-loop-k in
     record {
-      of_steps = record {
-        of_part = record { few = years in_loop_k; below = below in_loop_k; small = rw (held in_loop_k) (c.requires.small (k in_loop_k) (below in_loop_k)) };
-        starts_are = c.starts_of-starts.ensures;
-      };
+      below = below in_loop_k;
+      small = rw (held in_loop_k) (c.requires.small (k in_loop_k) (below in_loop_k));
       shared_small = λ n few.
           rw (c.ratios_missed-shared.ensures.are [] c.args.struck.now n few)
           (ratios_small (J in_loop_k) (o in_loop_k []) (years in_loop_k) (mean in_loop_k) c.requires.small n few);

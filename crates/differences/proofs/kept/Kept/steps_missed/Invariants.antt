@@ -7,7 +7,7 @@ use Rattle.integers.specs.Sum.{sum}
 use Rattle.definitions.specs.Matrix.{part_by_index}
 use Rattle.observations.specs.Arrays.{observations_at}
 use Rattle.differences.specs.Differences.{left_in, step_term}
-use Rattle.differences.proofs.own.steps_missed.Given as goal
+use Rattle.differences.proofs.kept.Kept.steps_missed.Given as goal
 
 -- what the sum is of
 abbrev pub term : List ℤ → List ℕ → List ℕ → ℕ → ℕ → ℤ → List ℕ → ℕ → ℤ
@@ -15,4 +15,4 @@ term ticks weights struck last k v variances = step_term (left_in last (observat
 
 abbrev pub invariant-loop-i : goal.invariant-loop-i
 invariant-loop-i l =
-    (variances : List ℕ) → l.total ≡ sum l.i (term l.ticks l.weights l.struck l.last l.k (l.part) variances)
+    (variances : List ℕ) → l.total ≡ sum l.i (term l.self.ticks.now l.self.weights.now l.self.struck.now l.self.last l.k l.value variances)

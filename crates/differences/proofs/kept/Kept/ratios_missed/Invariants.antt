@@ -5,7 +5,7 @@ use lib.IntN.{ℤ}
 use Rattle.laws.specs.RunningSums.{Summed}
 use Rattle.observations.specs.Arrays.{observations_at}
 use Rattle.differences.specs.Differences.{left_in, ratio_term}
-use Rattle.differences.proofs.ratios.ratios_missed.Given as goal
+use Rattle.differences.proofs.kept.Kept.ratios_missed.Given as goal
 
 -- what the sums are of
 abbrev pub term : List ℤ → List ℕ → List ℤ → ℕ → List ℕ → List ℕ → ℕ → ℤ
@@ -13,4 +13,4 @@ term ticks weights mean last variances struck = ratio_term (left_in last (observ
 
 abbrev pub invariant-loop-d : goal.invariant-loop-d
 invariant-loop-d l =
-    (variances struck : List ℕ) → Summed l.d (term l.ticks l.weights l.mean l.last variances struck) (l.total) l.sums
+    (variances struck : List ℕ) → Summed l.d (term l.self.ticks.now l.self.weights.now l.mean l.self.last variances struck) (l.total) l.sums

@@ -23,25 +23,25 @@ use Rattle.observations.specs.declared.Observations.{Observations}
 use Rattle.observations.specs.Arrays.{observations_at}
 use Rattle.differences.specs.Differences.{left_in, prior_term, step_term}
 use Rattle.differences.proofs.DifferenceLaws.{prior_small, steps_small}
-use Rattle.differences.proofs.residue_at.Goals as goal
-use Rattle.differences.proofs.residue_at.Goals.{After-prior_missed, Else-k-years, Then-k-years}
+use Rattle.differences.proofs.kept.Kept.residue_at.Goals as goal
+use Rattle.differences.proofs.kept.Kept.residue_at.Goals.{After-prior_missed, Else-k-years, Then-k-years}
 
 -- what the part misses of its own
 module _ (c : After-prior_missed) (variances : List ℕ) where
   abbrev J : ℕ
-  J = c.args.last
+  J = c.args.self.now.last
 
   abbrev k : ℕ
   k = c.args.k
 
   abbrev v : ℤ
-  v = c.args.part
+  v = c.args.value
 
   abbrev a : Part
   a = part_by_index J k
 
   abbrev o : Observations
-  o = observations_at c.args.ticks.now c.args.weights.now variances c.args.struck.now
+  o = observations_at c.args.self.now.ticks.now c.args.self.now.weights.now variances c.args.self.now.struck.now
 
   abbrev left : Chain
   left = left_in J o
@@ -53,22 +53,21 @@ module _ (c : After-prior_missed) (variances : List ℕ) where
   own = prior_term left a v +ℤ steps
 
   held : stored v ≡ v
-  held = to_z-of_z c.ranges.part
+  held = to_z-of_z c.ranges.value
 
   own_is : stored c.prior_missed.result +ℤ stored c.steps_missed-steps.result ≡ own
   own_is = ap₂ ◌+ℤ◌
-      (same _ c.prior_missed.type_inv ∙ c.prior_missed.ensures.is variances c.args.struck.now ∙ ap (prior_term left a) held)
+      (same _ c.prior_missed.type_inv ∙ c.prior_missed.ensures.is variances c.args.self.now.struck.now ∙ ap (prior_term left a) held)
       (same _ c.steps_missed-steps.type_inv ∙ c.steps_missed-steps.ensures.is variances
       ∙ ap (λ z. sum (steps_of J k) (step_term left a z)) held)
 
   own_small : nat_abs own ≤ 2 ^ 60
   own_small =
-      let part_of = c.requires.of_steps.of_part in
       omega (
         arith,
         nat_abs-+ (prior_term left a v) steps,
-        prior_small J o part_of.few k part_of.below v part_of.small,
-        steps_small J o part_of.few k part_of.below v part_of.small (steps_of J k) (le_refl _),
+        prior_small J o c.args.self.now.few k c.requires.below v c.requires.small,
+        steps_small J o c.args.self.now.few k c.requires.below v c.requires.small (steps_of J k) (le_refl _),
       )
 
   own_fits : nat_abs own < 2 ^ 63
@@ -144,7 +143,7 @@ module _ (c : Else-k-years) (variances : List ℕ) where
   past = omega (arith, c.if-k-years.false)
 
   rank_few : rank ≤ J missed_before variances
-  rank_few = omega (arith, c.requires.of_steps.of_part.below)
+  rank_few = omega (arith, c.requires.below)
 
   psi_sum : stored (stored c.prior_missed.result +ℤ stored c.steps_missed-steps.result) -ℤ stored (shared missed_before variances rank)
       ≡ own missed_before variances -ℤ shared missed_before variances rank
@@ -168,12 +167,12 @@ module _ (c : Else-k-years) (variances : List ℕ) where
       (sym (ap (λ p. sign_of p *ℤ shared missed_before variances (rank_of p)) (part_psi (J missed_before variances) (k missed_before variances) past)
       ∙ ap (λ n. negsuc 0 *ℤ shared missed_before variances n) rank_is))
 
-pub overflow_sub-result-2 : goal.overflow_sub-result-2
-overflow_sub-result-2 c =
-    let else_k_years = (goal.at.overflow_sub-result-2 c).Else-k-years in
+pub overflow_sub-result-else-k-years : goal.overflow_sub-result-else-k-years
+overflow_sub-result-else-k-years c =
+    let else_k_years = (goal.at.overflow_sub-result-else-k-years c).Else-k-years in
     fits (psi_sum else_k_years []) (psi_small else_k_years [])
 
-pub returns : goal.returns
-returns c =
-    let else_k_years = (goal.at.returns c).Else-k-years in
+pub returns-else-k-years : goal.returns-else-k-years
+returns-else-k-years c =
+    let else_k_years = (goal.at.returns-else-k-years c).Else-k-years in
     record { is = λ variances. kept w64 (psi_sum else_k_years variances) (psi_small else_k_years variances) ∙ psi_is else_k_years variances }

@@ -21,15 +21,15 @@ use Rattle.observations.specs.Arrays.{observations_at}
 use Rattle.observations.specs.Arrays as Arrays
 use Rattle.differences.specs.Differences.{left_in, log_at, ratio_term}
 use Rattle.differences.proofs.DifferenceLaws.{ratio_weight_is, last_ratio_is, last_ratio_small, ratio_small, ratio_is, ratios_small}
-use Rattle.differences.proofs.ratios.ratios_missed.Goals as goal
-use Rattle.differences.proofs.ratios.ratios_missed.Goals.{After-struct_told-in-loop-d-1, After-weighed-total, In-loop-d}
+use Rattle.differences.proofs.kept.Kept.ratios_missed.Goals as goal
+use Rattle.differences.proofs.kept.Kept.ratios_missed.Goals.{After-struct_told-in-loop-d-1, After-weighed-total, In-loop-d}
 
 pub loop-d-init : goal.loop-d-init
 loop-d-init c = λ variances struck. summed_none _
 
 module _ (c : In-loop-d) where
   abbrev J : ℕ
-  J = c.args.last
+  J = c.args.self.now.last
 
   abbrev mean : List ℤ
   mean = c.args.mean.now
@@ -38,22 +38,22 @@ module _ (c : In-loop-d) where
   d = c.loop-d.d
 
   abbrev o : List ℕ → List ℕ → Observations
-  o variances struck = observations_at c.args.ticks.now c.args.weights.now variances struck
+  o variances struck = observations_at c.args.self.now.ticks.now c.args.self.now.weights.now variances struck
 
   abbrev terms : List ℕ → List ℕ → ℕ → ℤ
   terms variances struck = ratio_term (left_in J (o variances struck)) mean
 
   years : J ≤ 15
-  years = c.requires.few
+  years = c.args.self.now.few
 
   more : d < J
   more = c.loop-d-test.true
 
   abbrev cell : ℕ
-  cell = Arrays.at c.args.starts.now (J - d) + d
+  cell = Arrays.at c.args.self.now.starts (J - d) + d
 
   cell_is : cell ≡ row_start J (J - d) + d
-  cell_is = ap (λ n. n + d) (starts_at c.requires.starts_are (J - d) (omega arith) years)
+  cell_is = ap (λ n. n + d) (starts_at c.args.self.now.starts_are (J - d) (omega arith) years)
 
   block_is : c.cells_of-cells.result ≡ cells J
   block_is = c.cells_of-cells.ensures
@@ -66,7 +66,7 @@ module _ (c : In-loop-d) where
 
   next_small : (variances struck : List ℕ) → nat_abs (sum (d + 1) (terms variances struck)) < 2 ^ 63
   next_small variances struck =
-      omega (arith, ratios_small J (o variances struck) years mean c.requires.small (d + 1) (omega (arith, more)))
+      omega (arith, ratios_small J (o variances struck) years mean c.requires (d + 1) (omega (arith, more)))
 
 pub overflow_sub-at : goal.overflow_sub-at
 overflow_sub-at c = omega (arith, more c)
@@ -93,7 +93,7 @@ kept_ratio_weight-weight-requires c =
 pub ratio_of-requires : goal.ratio_of-requires
 ratio_of-requires c =
     let in_loop_d = (goal.at.ratio_of-requires c).In-loop-d in
-    record { few = years in_loop_d; below = more in_loop_d; small = c.requires.small }
+    record { few = years in_loop_d; below = more in_loop_d; small = c.requires }
 
 -- the weight, the ratio of the mean and that of the amounts, as they are read
 module _ (c : After-struct_told-in-loop-d-1) (variances struck : List ℕ) where
@@ -104,7 +104,7 @@ module _ (c : After-struct_told-in-loop-d-1) (variances struck : List ℕ) where
   left = left_in (J in_loop_d) (o in_loop_d variances struck)
 
   abbrev log : ℕ → ℤ
-  log = log_at c.args.ticks.now
+  log = log_at c.args.self.now.ticks.now
 
   weight_is : c.kept_ratio_weight-weight.result.0 ≡ left.g (d in_loop_d)
   weight_is = c.kept_ratio_weight-weight.ensures ∙ ratio_weight_is (J in_loop_d) (o in_loop_d variances struck) (d in_loop_d) (more in_loop_d)
@@ -137,7 +137,7 @@ weighed-total-requires c =
       part_small = rw (same _ c.ratio_of.type_inv ∙ c.ratio_of.ensures)
           (omega (
             arith,
-            ratio_small (J in_loop_d) (mean in_loop_d) c.requires.small (d in_loop_d) (J in_loop_d - d in_loop_d)
+            ratio_small (J in_loop_d) (mean in_loop_d) c.requires (d in_loop_d) (J in_loop_d - d in_loop_d)
                 (omega (arith, more in_loop_d)),
             years in_loop_d,
           ));
