@@ -1,5 +1,6 @@
 // The right-hand side, from the logarithms of the amounts, the prior means and the weights.
-ghost use Rattle.std.specs.Prelude.{◌≡◌, not, cond, eqb, pos};
+ghost use Rattle.std.specs.Prelude.{◌≡◌, not, cond, eqb, pos, ◌*ℤ◌, ◌<◌};
+ghost use Rattle.observations.specs.Arrays.{ratio_at};
 ghost use Rattle.figures.specs.Sums.{
   OfRows,
   OfSteps,
@@ -9,6 +10,7 @@ ghost use Rattle.figures.specs.Sums.{
   column_sum,
   ColumnSums,
   OfRatios,
+  ratio_of,
   RatioSums,
   OfTarget,
   target_from,
@@ -18,6 +20,7 @@ ghost use Rattle.figures.specs.Sums.{
 
 use crate::matrix::rank_of;
 use layout::places::cells_of;
+use observations::sums::running_sums;
 use observations::{PRIOR_MEANS, PRIOR_WEIGHTS, RATIO_WEIGHTS};
 
 // What a step counts for: nothing where it is marked as struck.
@@ -94,23 +97,24 @@ impl<'a> Columns<'a> {
         sums
     }
 
-    // The sums of g times y over the first n development years, for n = 0..J. Development year d is the last one of the accident
-    // year J − d.
+    // g times y of development year d, which is the last one of the accident year J − d.
+    fn weighed_ratio(&self, weights: &[u64; 77], d: usize) -> i64
+        requires of_ratios { OfRatios weights.now self.now.ticks.now self.now.starts self.now.last }
+        requires below { d < self.now.last }
+        ensures { result ≡ pos (ratio_at weights.now d) *ℤ ratio_of self.now.ticks.now self.now.last d }
+    {
+        let cells = cells_of(self.last);
+        let year = self.last as usize - d;
+        let at = self.starts[year] + d;
+        weights[RATIO_WEIGHTS + d] as i64 * (self.ticks[cells + at] - self.ticks[at])
+    }
+
+    // The sums of those over the first n development years, for n = 0..J.
     pub fn ratio_sums(&self, weights: &[u64; 77]) -> [i64; 16]
         requires { OfRatios weights.now self.now.ticks.now self.now.starts self.now.last }
         ensures { RatioSums weights.now self.now.ticks.now self.now.last result }
     {
-        let years = self.last as usize;
-        let cells = cells_of(self.last);
-        let mut sums = [0i64; 16];
-        let mut total = 0i64;
-        for d in 0..years {
-            let year = years - d;
-            let at = self.starts[year] + d;
-            total += weights[RATIO_WEIGHTS + d] as i64 * (self.ticks[cells + at] - self.ticks[at]);
-            sums[d + 1] = total;
-        }
-        sums
+        running_sums(self.last as usize, |d| self.weighed_ratio(weights, d))
     }
 }
 

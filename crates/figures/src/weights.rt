@@ -1,6 +1,7 @@
 // What the matrix is filled from: each part's own weight, and the sums of the weights of the ratios.
 ghost use Rattle.figures.specs.Weights.{Shares, SharesOf, Owns, OwnWeights};
 
+use observations::sums::running_sums;
 use observations::{PRIOR_WEIGHTS, RATIO_WEIGHTS};
 
 // The sums of the first n of the g, for n = 0..J.
@@ -8,14 +9,7 @@ pub fn shares(weights: &[u64; 77], last: u8) -> [i64; 16]
     requires { Shares weights.now last }
     ensures { SharesOf weights.now last result }
 {
-    let years = last as usize;
-    let mut sums = [0i64; 16];
-    let mut total = 0i64;
-    for n in 0..years {
-        total += weights[RATIO_WEIGHTS + n] as i64;
-        sums[n + 1] = total;
-    }
-    sums
+    running_sums(last as usize, |n| weights[RATIO_WEIGHTS + n] as i64)
 }
 
 // The own weights: a part's prior, and its own observations, as many as are left.

@@ -17,6 +17,7 @@ pub mod means;
 pub mod parts;
 pub mod ratios;
 pub mod strikes;
+pub mod sums;
 
 // Where the prior means stand behind the logarithms of at most 272 cells.
 pub const PRIOR_MEANS: usize = 272;
