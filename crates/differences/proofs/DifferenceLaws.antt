@@ -215,20 +215,25 @@ module _ (J : ℕ) (o : Observations) (years : J ≤ 15) where
   last_ratio_small e below = omega (arith, bounded.y_to (J - e) (omega arith))
 
   module _ (mean : List ℤ) (small : (k : ℕ) → k < parts J → nat_abs (part mean k) ≤ part_limit) where
+    pub ratio_term_small : (e : ℕ) → e < J → nat_abs (ratio_term (left_in J o) mean e) ≤ 31 * 2 ^ 53
+    ratio_term_small e before =
+        let of_mean : nat_abs (ratio d (part mean) (J - e)) ≤ 15 * 2 ^ 27 =
+        subst (λ z. nat_abs z ≤ 15 * 2 ^ 27) (ratio_is J o mean e before)
+        (omega (arith, ratio_small J mean small e (J - e) (omega arith), years)) in
+        omega (
+          arith,
+          term_small (d.g e) (ratio d (part mean) (J - e)) (d.y (J - e)) (bounded.g_to e before) of_mean
+              (bounded.y_to (J - e) (omega arith)),
+        )
+
     pub ratios_small : (n : ℕ) → n ≤ J → nat_abs (sum n (ratio_term (left_in J o) mean)) ≤ 2 ^ 62
     ratios_small n few =
-        omega (arith, sum_size n (ratio_term d mean), total_bound n (31 * 2 ^ 53) each, years)
-      where
-        each : (e : ℕ) → e < n → nat_abs (ratio_term d mean e) ≤ 31 * 2 ^ 53
-        each e before =
-            let of_mean : nat_abs (ratio d (part mean) (J - e)) ≤ 15 * 2 ^ 27 =
-            subst (λ z. nat_abs z ≤ 15 * 2 ^ 27) (ratio_is J o mean e (omega arith))
-            (omega (arith, ratio_small J mean small e (J - e) (omega arith), years)) in
-            omega (
-              arith,
-              term_small (d.g e) (ratio d (part mean) (J - e)) (d.y (J - e)) (bounded.g_to e (omega arith)) of_mean
-                  (bounded.y_to (J - e) (omega arith)),
-            )
+        omega (
+          arith,
+          sum_size n (ratio_term d mean),
+          total_bound n (31 * 2 ^ 53) (λ e before. ratio_term_small e (omega arith)),
+          years,
+        )
 
 -- ---- the sums are the definitions' residues
 

@@ -84,6 +84,9 @@ ratio_from mean J d = sum (J - d) (λ n. part mean (d + 1 + n) -ℤ part mean (J
 abbrev pub ratio_term : Chain → List ℤ → ℕ → ℤ
 ratio_term c mean d = pos (c.g d) *ℤ (ratio c (part mean) (c.last - d) -ℤ c.y (c.last - d))
 
+pub record RatioMissed (ticks : List ℤ) (weights : List ℕ) (mean : List ℤ) (last d : ℕ) (r : ℤ) : Type 0 where
+  pub is : (variances struck : List ℕ) → r ≡ ratio_term (left_in last (observations_at ticks weights variances struck)) mean d
+
 pub record RatiosMissed (ticks : List ℤ) (weights : List ℕ) (mean : List ℤ) (last : ℕ) (r : List ℤ) : Type 0 where
   pub are : (variances struck : List ℕ) (n : ℕ) → n ≤ last
       → part r n ≡ sum n (ratio_term (left_in last (observations_at ticks weights variances struck)) mean)
