@@ -1,2 +1,1 @@
-pub mod BroughtBack
 pub mod WideLaws

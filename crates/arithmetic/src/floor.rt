@@ -2,10 +2,10 @@
 ghost use Rattle.std.specs.Prelude.{◌≡◌, pos, nat_abs, ◌<ℤ◌};
 ghost use Rattle.integers.specs.Floor.{floor_div};
 
-// x / d rounded down; the code's own division rounds toward zero.
+// x / d rounded down; `/` rounds toward zero.
 pub fn floor(x: i64, d: i64) -> i64
     requires { pos 0 <ℤ d }
     ensures { result ≡ floor_div x (nat_abs d) }
 {
-    if x < 0 { -1 - (-1 - x) / d } else { x / d }
+    x.div_euclid(d)
 }

@@ -8,13 +8,7 @@ const PART_LIMIT: i64 = 67_108_864;
 pub fn brought_back(z: i64) -> i64
     ensures { result ≡ bring_back z }
 {
-    if PART_LIMIT < z {
-        PART_LIMIT
-    } else if z < -PART_LIMIT {
-        -PART_LIMIT
-    } else {
-        z
-    }
+    z.clamp(-PART_LIMIT, PART_LIMIT)
 }
 
 // Any other number: v itself, or the limit that it has passed.
@@ -22,11 +16,5 @@ pub fn brought_within(low: u64, high: u64, v: u64) -> u64
     requires { low ≤ high }
     ensures { result ≡ max low (min high v) }
 {
-    if v < low {
-        low
-    } else if high < v {
-        high
-    } else {
-        v
-    }
+    v.clamp(low, high)
 }

@@ -32,11 +32,9 @@ fn split(x: i64, d: u64) -> Quotient
     ensures { Divides x d result }
 {
     let divisor = d as i64;
-    let floor = floor(x, divisor);
-    let rest = x - floor * divisor;
     Quotient {
-        floor: floor,
-        rest: rest as u64,
+        floor: floor(x, divisor),
+        rest: x.rem_euclid(divisor) as u64,
     }
 }
 

@@ -1,21 +1,23 @@
--- A part that has passed a limit is set to it. Shown: the code's tests are those of `bring_back`. Assumes nothing.
-use mathlib.Core.Path.{sym, ap, ◌∙◌}
-use lib.IntN.{pos, negsuc}
-use lib.Signed.{lt_z}
-use mir.Facts.{to_z-of_z}
-use Rattle.arithmetic.proofs.BroughtBack.{above_limit, below_limit, within_limits}
+-- A part that has passed a limit is set to it. Shown: the library's tests are those of `bring_back`. Assumes nothing.
+use Rattle.std.specs.Prelude.{◌≡◌, refl, Bool, true, false, ℤ, pos, neg_ℤ}
+use Rattle.std.proofs.Common.{ap, ◌∙◌, to_z-of_z}
+use Rattle.std.proofs.Math.Bool.{cond}
+use Rattle.std.specs.Int.{int_min, int_max}
+use Rattle.std.specs.Int.Signed.{lt_z}
+use Rattle.integers.specs.Bits.{same}
+use Rattle.definitions.specs.Refusals.{part_limit}
+use Rattle.definitions.specs.Sweep.{bring_back}
 use Rattle.arithmetic.proofs.limits.brought_back.Goals as goal
 
-pub returns-then-z-gt-PART_LIMIT : goal.returns-then-z-gt-PART_LIMIT
-returns-then-z-gt-PART_LIMIT c = let back = sym (to_z-of_z c.ranges.z) in sym (above_limit c.args.z (ap (lt_z (pos 67108864)) back ∙ c.if-z-gt-PART_LIMIT.true))
+clamped : (z : ℤ) → int_max (neg_ℤ (pos part_limit)) (int_min z (pos part_limit)) ≡ bring_back z
+unfolding bring_back
+clamped z = by_test (lt_z (pos part_limit) z)
+  where
+    by_test : (above : Bool)
+        → int_max (neg_ℤ (pos part_limit)) (cond above (pos part_limit) z)
+        ≡ cond above (pos part_limit) (cond (lt_z z (neg_ℤ (pos part_limit))) (neg_ℤ (pos part_limit)) z)
+    by_test true = refl
+    by_test false = refl
 
-pub returns-then-z : goal.returns-then-z
-returns-then-z c =
-    let back = sym (to_z-of_z c.ranges.z) in
-    sym (below_limit c.args.z (ap (lt_z (pos 67108864)) back ∙ c.if-z-gt-PART_LIMIT.false) (ap (λ y. lt_z y (negsuc 67108863)) back ∙ c.if-z.true))
-
-pub returns-else-z : goal.returns-else-z
-returns-else-z c =
-    let back = sym (to_z-of_z c.ranges.z) in
-    to_z-of_z c.ranges.z
-    ∙ sym (within_limits c.args.z (ap (lt_z (pos 67108864)) back ∙ c.if-z-gt-PART_LIMIT.false) (ap (λ y. lt_z y (negsuc 67108863)) back ∙ c.if-z.false))
+pub returns : goal.returns
+returns c = same c.clamp.result c.clamp.type_inv ∙ c.clamp.ensures.value ∙ clamped _ ∙ ap bring_back (to_z-of_z c.ranges.z)

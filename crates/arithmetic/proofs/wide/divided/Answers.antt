@@ -51,9 +51,6 @@ module _ (c : After-struct_told-2-1) where
 pub overflow_mul-result : goal.overflow_mul-result
 overflow_mul-result c = fits (upper c) (omega (arith, upper_small c))
 
-pub overflow_add-result : goal.overflow_add-result
-overflow_add-result c = fits (floor_is c) (floor_fits c)
-
 pub returns : goal.returns
 returns c =
     subst (λ q. Divides (value_of c.args.n) c.args.d (record { floor = q; rest = (third c).rest }))

@@ -7,7 +7,7 @@ use mir.Syntax.{w64}
 use mir.Val.{to_z}
 use mir.Facts.{to_z-of_z, to_z_pos}
 use Rattle.integers.specs.Bits.{stored, same}
-use Rattle.integers.specs.Size.{fits, kept}
+use Rattle.integers.specs.Size.{kept}
 use Rattle.arithmetic.specs.Wide.{IsWide, Divides}
 use Rattle.arithmetic.proofs.WideLaws.{upper_small, lower_small, high_small, product_is}
 use Rattle.arithmetic.proofs.wide.product.Goals as goal
@@ -33,21 +33,8 @@ module _ (s : Start) where
   lower_is : to_z w64 (a % 4294967296) *ℤ stored b ≡ pos (a % 4294967296) *ℤ b
   lower_is = half (a % 4294967296) (omega arith)
 
-pub overflow_mul-upper : goal.overflow_mul-upper
-overflow_mul-upper c = fits (upper_is c) (omega (arith, upper_small (a c) (b c) (a_fits c) c.requires))
-
-pub overflow_mul-a : goal.overflow_mul-a
-overflow_mul-a c = fits (lower_is c) (omega (arith, lower_small (a c) (b c) (a_fits c) c.requires))
-
 lower-read : (s : Start) → stored (to_z w64 (a s % 4294967296) *ℤ stored (b s)) ≡ pos (a s % 4294967296) *ℤ b s
 lower-read s = kept w64 (lower_is s) (omega (arith, lower_small (a s) (b s) (a_fits s) s.requires))
-
-pub split-lower-requires : goal.split-lower-requires
-split-lower-requires c = rw (lower-read c) (record {
-  some = omega arith;
-  divisor_small = omega arith;
-  small = lower_small (a c) (b c) (a_fits c) c.requires;
-})
 
 -- with the carry
 module _ (c : After-struct_told-1) where
@@ -60,11 +47,6 @@ module _ (c : After-struct_told-1) where
       (kept w64 (upper_is c.before.before.before)
       (omega (arith, upper_small (a c.before.before.before) (b c.before.before.before) (a_fits c.before.before.before) c.requires)))
       (same _ c.struct_told-1.given.0.1)
-
-pub overflow_add-result : goal.overflow_add-result
-overflow_add-result c =
-    let start = (goal.at.overflow_add-result c).Start in
-    fits (high c) (high_small (a start) (b start) (a_fits start) c.requires (split c))
 
 pub returns : goal.returns
 returns c =
