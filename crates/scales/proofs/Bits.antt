@@ -2,11 +2,11 @@
 use mathlib.Core.Path.{◌≡◌, refl, sym, ap, subst, ◌∙◌}
 use mathlib.Core.Bool.{Bool, true, false, cond}
 use Prim.Native.Nat.{ℕ, suc, ◌+◌, ◌*◌, ◌-◌, ◌/◌, ◌%◌, ◌^◌, ◌≤◌, ◌<◌}
-use native.Mathlib.Nat.{le_of_lt, lt_of_le_of_lt, lt_of_lt_of_le, mul-le-mul_left, mul-lt-mul_of_pos_right, mul_assoc, pow-suc}
+use native.Mathlib.Nat.{le_of_lt, lt_of_le_of_lt, mul-le-mul_left, mul-lt-mul_of_pos_right, mul_assoc, pow-suc}
 use native.Mathlib.Omega.{arith}
 use borrow.Author.Tests.{leb-true, leb-false}
 use lib.Dec.{leb}
-use lib.Pow.{pow_pos, pow_mono, pow-add, shl_exact, shl-shr, shr-shr}
+use lib.Pow.{pow_pos, pow-add, shl_exact, shl-shr, shr-shr}
 use lib.Count.{count_leading_zeros, leading_top}
 use Rattle.definitions.specs.Logarithm.{start_from, next_bit, next_Y, bits_of}
 
@@ -70,9 +70,6 @@ pub one_bit_more : (i l b : ℕ) → l < 2 ^ (6 + i) → b ≤ 1 → 2 * l + b <
 one_bit_more i l b h small =
     let e : 6 + (i + 1) ≡ suc (6 + i) = omega arith in
     subst (λ n. 2 * l + b < n) (sym (pow-suc 2 (6 + i)) ∙ ap (λ n. 2 ^ n) (sym e)) (omega arith)
-
-pub few_bits : (i l : ℕ) → i ≤ 21 → l < 2 ^ (6 + i) → l < 2 ^ 27
-few_bits i l n h = lt_of_lt_of_le h (pow_mono {j = 27} (omega arith))
 
 -- one squaring of those that are left
 pub bits_next : (left i y l : ℕ) → i < left → bits_of (left - i) y l ≡ bits_of (left - (i + 1)) (next_Y y) (2 * l + next_bit y)

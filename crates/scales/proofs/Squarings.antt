@@ -1,13 +1,13 @@
 -- The squarings of a logarithm, counted: those that are left, run from y and the bits so far, give what all of them give from the start.
 use Prim.Native.Nat.{ℕ, ◌+◌, ◌-◌, ◌/◌, ◌^◌, ◌≤◌, ◌<◌}
-use mathlib.Core.Path.{◌≡◌, refl, sym, ap, ap₂, ◌∙◌}
+use mathlib.Core.Path.{◌≡◌, sym, ap, ap₂, ◌∙◌}
 use native.Mathlib.Omega.{arith}
 use lib.IntN.{ℤ, pos}
 use Rattle.definitions.specs.Logarithm.{logarithm, bits_of, next_bit, squarings}
 use Rattle.laws.proofs.LogarithmBits.{next_bit_small, logarithm_run}
 use Rattle.scales.specs.declared.Squaring.{Squaring}
 use Rattle.scales.specs.Squaring.{Start, Next}
-use Rattle.scales.proofs.Bits.{one_bit_more, few_bits, bits_next}
+use Rattle.scales.proofs.Bits.{one_bit_more, bits_next}
 
 -- after i squarings from s
 pub record After (i : ℕ) (s t : Squaring) : Type 0 where
@@ -16,18 +16,7 @@ pub record After (i : ℕ) (s t : Squaring) : Type 0 where
   pub few : t.bits < 2 ^ (6 + i)
   pub within : i ≤ squarings
 
-pub after_none : {a : ℕ} {s : Squaring} → Start a s → After 0 s s
-after_none h = record { same = refl; small = h.small; few = h.few; within = omega arith }
-
 module _ {i : ℕ} {s t : Squaring} (h : After i s t) where
-  -- six bits of the whole part, and 21
-  after_few : t.bits < 2 ^ 27
-  after_few = few_bits i t.bits h.within h.few
-
-  -- what one squaring more asks for
-  pub after_may : (t.y < 2 ^ 32) × (t.bits < 2 ^ 31)
-  after_may = (h.small, omega (arith, after_few))
-
   pub after_next : {u : Squaring} → i < squarings → Next t u → After (i + 1) s u
   after_next {u} more n = record {
     same = rw (n.y, n.bits) (sym (bits_next squarings i t.y t.bits more) ∙ h.same);

@@ -48,7 +48,7 @@ fn start(a: u64) -> Squaring
     if a == 0 {
         return Squaring { y: 0, bits: 0 };
     }
-    let zeros = u64::leading_zeros(a);
+    let zeros = a.leading_zeros();
     Squaring {
         y: (a << zeros) >> 32,
         bits: 63 - zeros,
@@ -82,10 +82,8 @@ pub fn logarithm_of(a: Amount) -> Ticks
     ensures { result.0 ≡ pos (logarithm a.0) }
 {
     let mut s = start(a.0);
-    let mut i = 0u32;
-    while i < SQUARINGS {
+    for _ in 0..SQUARINGS {
         s = squared(s);
-        i += 1;
     }
     nearest(s)
 }
@@ -98,13 +96,11 @@ pub fn four_logarithms_of(a: Amount, b: Amount, c: Amount, d: Amount) -> FourTic
     let mut second = start(b.0);
     let mut third = start(c.0);
     let mut fourth = start(d.0);
-    let mut i = 0u32;
-    while i < SQUARINGS {
+    for _ in 0..SQUARINGS {
         first = squared(first);
         second = squared(second);
         third = squared(third);
         fourth = squared(fourth);
-        i += 1;
     }
     FourTicks {
         first: nearest(first),
@@ -115,6 +111,7 @@ pub fn four_logarithms_of(a: Amount, b: Amount, c: Amount, d: Amount) -> FourTic
 }
 
 // The weight of a variance: 2^46 / v, rounded, a half up. It is 0 for 0, and for all above 2^47.
+#[tactic(auto, using(std::proofs::lemmas::Grind::common_steps), unfolding(definitions::specs::Weight::weight))]
 pub fn weight_of(v: Variance) -> Weight
     ensures { result.0 ≡ weight v.0 }
 {

@@ -1,26 +1,10 @@
 -- `scales::squared` meets its contract: the square has 64 bits, and its highest bit is the definition's test.
-use native.Mathlib.Omega.{arith}
 use mathlib.Core.Path.{refl, ap}
 use Prim.Native.Nat.{◌+◌, ◌*◌, ◌^◌}
 use lib.Dec.{leb}
 use Rattle.definitions.specs.Logarithm.{next_bit, next_Y}
 use Rattle.scales.proofs.Bits.{square_below, highest, shifted, shifted_below}
 use Rattle.scales.proofs.squared.Goals as goal
-
-pub overflow_mul-square : goal.overflow_mul-square
-overflow_mul-square c = record { fits = square_below c.args.s.y c.requires.0 }
-
-pub overflow_add-result : goal.overflow_add-result
-overflow_add-result c = omega (arith, square_below c.args.s.y c.requires.0)
-
-pub overflow_shr-result : goal.overflow_shr-result
-overflow_shr-result c = omega (arith, square_below c.args.s.y c.requires.0)
-
-pub overflow_cast-result : goal.overflow_cast-result
-overflow_cast-result c = omega (arith, square_below c.before.args.s.y c.before.requires.0)
-
-pub overflow_add-result-2 : goal.overflow_add-result-2
-overflow_add-result-2 c = omega (arith, square_below c.before.args.s.y c.before.requires.0)
 
 pub returns : goal.returns
 unfolding next_bit next_Y

@@ -2,7 +2,7 @@
 -- and y is the definition's whichever way that shifts the amount.
 use native.Mathlib.Omega.{arith}
 use mathlib.Core.Path.{refl, ap, ◌∙◌}
-use Prim.Native.Nat.{◌-◌, ◌/◌, ◌^◌, ◌≤◌}
+use Prim.Native.Nat.{◌-◌, ◌/◌, ◌^◌}
 use lib.Count.{count_leading_zeros}
 use Rattle.definitions.specs.Logarithm.{highest_bit, start_from}
 use Rattle.scales.proofs.Bits.{leading_below, brought_up, started}
@@ -12,18 +12,6 @@ pub returns-then-a-eq0 : goal.returns-then-a-eq0
 unfolding highest_bit start_from count_leading_zeros
 returns-then-a-eq0 c = rw c.if-a-eq0.true (record { y = refl; bits = refl; small = omega arith; few = omega arith })
 
-zeros-below : (c : goal.Else-a-eq0) → count_leading_zeros 64 c.before.args.a ≤ 63
-zeros-below c = leading_below c.before.args.a (omega (arith, c.if-a-eq0.false)) c.before.ranges.a.fits
-
-pub overflow_cast-result : goal.overflow_cast-result
-overflow_cast-result c = omega (arith, zeros-below c)
-
-pub overflow_shl-result : goal.overflow_shl-result
-overflow_shl-result c = omega (arith, zeros-below c)
-
-pub overflow_sub-result : goal.overflow_sub-result
-overflow_sub-result c = zeros-below c
-
 pub returns : goal.returns
 unfolding highest_bit
 returns c =
@@ -31,7 +19,7 @@ returns c =
     let zeros = count_leading_zeros 64 a in
     let whole = brought_up a (omega (arith, c.if-a-eq0.false)) c.before.ranges.a.fits in
     record {
-      y = ap (λ n. n / 2 ^ 32) whole ∙ started a (63 - zeros) zeros (omega (arith, zeros-below c));
+      y = ap (λ n. n / 2 ^ 32) whole ∙ started a (63 - zeros) zeros (omega (arith, leading_below a (omega (arith, c.if-a-eq0.false)) c.before.ranges.a.fits));
       bits = refl;
       small = omega arith;
       few = omega arith;
