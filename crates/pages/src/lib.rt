@@ -9,7 +9,7 @@ ghost use Rattle.text.specs.Added.{Added};
 ghost use Rattle.pages.specs.Pages.{OfLine, OfPage};
 
 use text::parts::{index_of, name_of};
-use text::put::{put, put_in, put_signed_in};
+use text::put::{put, put_in};
 
 pub fn page_length(last: usize) -> usize
     requires { last ≤ year_limit }
@@ -27,7 +27,7 @@ fn put_line(buf: &mut [u8], at: usize, last: usize, k: usize, mean: i64, own: u6
     let index = index_of(last, k);
     let named = put(buf, at, &name);
     let indexed = put_in(buf, named, 3, index as u64);
-    let estimated = put_signed_in(buf, indexed, 10, mean);
+    let estimated = put_in(buf, indexed, 10, mean);
     let weighed = put_in(buf, estimated, 11, own);
     put(buf, weighed, b"\n")
 }
@@ -37,13 +37,8 @@ pub fn write_page<'a>(buf: &'a mut [u8], last: usize, mean: &'a [i64; 31], own: 
     requires { OfPage buf.old last mean.now own.now }
     ensures { buf.new ≡ page_of last mean.now own.now ++ drop (page_length last) buf.old }
 {
-    let count = 2 * last + 1;
-    let mut end = 0usize;
-    let mut k = 0usize;
-    while k < count {
-        let ticks = mean[k];
-        let weight = own[k];
-        end = put_line(buf, end, last, k, ticks, weight);
-        k += 1;
+    let mut end = 0;
+    for k in 0..2 * last + 1 {
+        end = put_line(buf, end, last, k, mean[k], own[k]);
     }
 }

@@ -16,13 +16,7 @@ pub record Added (page : List ℕ) (at : ℕ) (text now : List ℕ) (end : ℕ) 
   pub front : take end now ≡ take (length page) (take at page ++ text)
   pub behind : drop end now ≡ drop end page
 
--- what an end of 20 bytes is asked for
-pub record OfEnd (page : List ℕ) (at : ℕ) (bytes : List ℕ) (from : ℕ) : Type 0 where
-  pub on : at ≤ length page
-  pub long : length bytes ≡ 20
-  pub inside : from ≤ 20
-
--- and a text in so many columns
+-- what a text in so many columns is asked for
 pub record OfColumns (page : List ℕ) (at columns : ℕ) (text : List ℕ) : Type 0 where
   pub on : at ≤ length page
   pub fits : length text ≤ columns

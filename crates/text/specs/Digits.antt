@@ -3,7 +3,7 @@ use Rattle.std.specs.Prelude.{ℕ, zero, suc, ◌+◌, ◌-◌, ◌/◌, ◌%◌
 use Rattle.std.proofs.Common.{sym, ap, subst, ◌∙◌, append_assoc, append-nil, pow-suc, zero-add, suc-add, arith, drop_at}
 use Rattle.std.proofs.lemmas.List.{length-replicate, set_at}
 use Rattle.definitions.specs.Text.{space, minus, digit, decimal_from, more_digits, decimal, aligned}
-use Rattle.laws.proofs.Decimal.{decimal_last, decimal_more, decimal_length, aligned_length}
+use Rattle.laws.proofs.Decimal.{decimal_last, decimal_more, decimal_length}
 use Rattle.text.specs.declared.digits.Digits.{Digits}
 
 -- the text at the right end of the 20 bytes, and where it begins
@@ -107,9 +107,6 @@ pub spelt_end : {text : List ℕ} {d : Digits} → Spelt text d → drop d.from 
 spelt_end {text} {d} s =
     ap (drop d.from) (s.bytes ∙ spaces_before d.from text s.from)
     ∙ drop_at (replicate d.from space) text d.from (length-replicate d.from space)
-
-pub spelt_length : {text : List ℕ} {d : Digits} → Spelt text d → length d.bytes ≡ 20
-spelt_length {text} s = ap length s.bytes ∙ aligned_length 20 text (omega (arith, s.from))
 
 -- the last columns have the text right-aligned
 pub spelt_columns : {text : List ℕ} {d : Digits} (columns : ℕ) → Spelt text d → length text ≤ columns → columns ≤ 20

@@ -1,72 +1,45 @@
 // Texts put on a page, one behind another. Each function puts its text at a place of the page, as much of it as the page has room
 // for, leaves what stands behind it, and answers where it ends.
-ghost use Rattle.std.specs.Prelude.{◌≤◌, length, drop};
-ghost use Rattle.definitions.specs.Text.{decimal, signed_decimal, aligned};
+ghost use Rattle.std.specs.Prelude.{◌≤◌, length};
+ghost use Rattle.definitions.specs.Text.{signed_decimal, aligned};
 ghost use Rattle.definitions.specs.Programs.{count_line, refusal_line};
-ghost use Rattle.text.specs.Added.{Added, OfEnd, OfColumns};
+ghost use Rattle.text.specs.Added.{Added, OfColumns};
 
-use crate::digits::{spell, spell_signed};
+use crate::digits::Spell;
 
 pub fn put(page: &mut [u8], at: usize, text: &[u8]) -> usize
     requires { at ≤ length page.old }
     ensures { Added page.old at text.now page.new result }
 {
-    let mut end = at;
-    let mut i = 0usize;
-    while i < text.len() {
-        if page.len() <= end {
-            return end;
-        }
-        page[end] = text[i];
-        end += 1;
-        i += 1;
-    }
+    let count = (page.len() - at).min(text.len());
+    let end = at + count;
+    page[at..end].copy_from_slice(&text[..count]);
     end
 }
 
-// The end of a number's 20 bytes, from one of them on.
-pub fn put_end(page: &mut [u8], at: usize, bytes: [u8; 20], from: usize) -> usize
-    requires { OfEnd page.old at bytes from }
-    ensures { Added page.old at (drop from bytes) page.new result }
-{
-    put(page, at, &bytes[from..])
-}
-
-pub fn put_decimal(page: &mut [u8], at: usize, n: u64) -> usize
+// A number in base ten.
+pub fn put_decimal<N: Spell>(page: &mut [u8], at: usize, n: N) -> usize
     requires { at ≤ length page.old }
-    ensures { Added page.old at (decimal n) page.new result }
+    ensures { Added page.old at (N.text n) page.new result }
 {
-    let spelt = spell(n);
-    let bytes = spelt.bytes;
-    put_end(page, at, bytes, spelt.from)
+    let spelt = n.spell();
+    put(page, at, &spelt.bytes[spelt.from..])
 }
 
 pub fn put_signed(page: &mut [u8], at: usize, z: i64) -> usize
     requires { at ≤ length page.old }
     ensures { Added page.old at (signed_decimal z) page.new result }
 {
-    let spelt = spell_signed(z);
-    let bytes = spelt.bytes;
-    put_end(page, at, bytes, spelt.from)
+    put_decimal(page, at, z)
 }
 
 // Right-aligned in so many columns.
-pub fn put_in(page: &mut [u8], at: usize, columns: usize, n: u64) -> usize
-    requires { OfColumns page.old at columns (decimal n) }
-    ensures { Added page.old at (aligned columns (decimal n)) page.new result }
+pub fn put_in<N: Spell>(page: &mut [u8], at: usize, columns: usize, n: N) -> usize
+    requires { OfColumns page.old at columns (N.text n) }
+    ensures { Added page.old at (aligned columns (N.text n)) page.new result }
 {
-    let spelt = spell(n);
-    let bytes = spelt.bytes;
-    put_end(page, at, bytes, 20 - columns)
-}
-
-pub fn put_signed_in(page: &mut [u8], at: usize, columns: usize, z: i64) -> usize
-    requires { OfColumns page.old at columns (signed_decimal z) }
-    ensures { Added page.old at (aligned columns (signed_decimal z)) page.new result }
-{
-    let spelt = spell_signed(z);
-    let bytes = spelt.bytes;
-    put_end(page, at, bytes, 20 - columns)
+    let spelt = n.spell();
+    put(page, at, &spelt.bytes[20 - columns..])
 }
 
 // A name and a number.

@@ -20,8 +20,8 @@ put_in-indexed-requires c =
       few = omega arith;
     }
 
-pub put_signed_in-estimated-requires : goal.put_signed_in-estimated-requires
-put_signed_in-estimated-requires c =
+pub put_in-estimated-requires : goal.put_in-estimated-requires
+put_in-estimated-requires c =
     let fits = mean_fits c.requires.fits in
     record {
       on = c.put_in-indexed.ensures.counted.0;
@@ -32,7 +32,7 @@ put_signed_in-estimated-requires c =
 pub put_in-weighed-requires : goal.put_in-weighed-requires
 put_in-weighed-requires c =
     let fits = own_fits c.requires.fits in
-    record { on = c.put_signed_in-estimated.ensures.counted.0; fits = omega (arith, fits); few = omega arith }
+    record { on = c.put_in-estimated.ensures.counted.0; fits = omega (arith, fits); few = omega arith }
 
 -- the pieces in their own words
 pieces : {name named : List ℕ} {index indexed : ℕ} {mean meant : ℤ} (own : ℕ) → name ≡ named → index ≡ indexed → mean ≡ meant
@@ -44,11 +44,11 @@ pub returns : goal.returns
 returns c =
     let kept₁ = c.put-named.auto.page in
     let kept₂ = c.put_in-indexed.auto.page ∙ kept₁ in
-    let kept₃ = c.put_signed_in-estimated.auto.page ∙ kept₂ in
+    let kept₃ = c.put_in-estimated.auto.page ∙ kept₂ in
     let kept₄ = c.put_in-weighed.auto.page ∙ kept₃ in
     let name = c.name_of-name.ensures in
     let index = c.index_of-index.ensures in
     let ticks = to_z-of_z c.ranges.mean in
     in_words (pieces c.args.own name index ticks ∙ line_put c.requires.fits)
-    (both (both (both (both c.put-named.ensures kept₁ c.put_in-indexed.ensures) kept₂ c.put_signed_in-estimated.ensures) kept₃
+    (both (both (both (both c.put-named.ensures kept₁ c.put_in-indexed.ensures) kept₂ c.put_in-estimated.ensures) kept₃
     c.put_in-weighed.ensures) kept₄ c.put.ensures)

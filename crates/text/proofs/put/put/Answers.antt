@@ -1,64 +1,42 @@
--- What `put` leaves at the page's front is what was there and the text, as far as the page goes. The invariant: the page is as long
--- as it was, its front is what was there and the bytes passed, and behind that nothing moved.
-use Prim.Native.Nat.{ℕ, ◌+◌, ◌≤◌, ◌<◌}
-use mathlib.Core.Path.{◌≡◌, refl, sym, ap, ◌∙◌}
-use mathlib.Core.List.{List, [], ◌∷◌, ◌++◌, append-nil, append_assoc}
-use native.Mathlib.Numerals.{add-one}
-use native.Mathlib.Omega.{arith}
-use borrow.Author.Rules.{rules}
-use lib.ListN.{length, get_or, take, set, length-append, length-set}
-use lib.Seq.{length-take-le, take_all, take-suc, take-suc-set, take-append-add, drop-set-lt}
-use Rattle.text.specs.Added.{on_page, further}
+-- What `put` leaves at the page's front is what was there and the text, as far as the page goes.
+use Rattle.std.proofs.Common.{ℕ, ◌+◌, ◌-◌, ◌≤◌, ◌≡◌, List, ◌++◌, length, take, min, sym, ap, ◌∙◌, arith, length-append, length-take-le}
+use Rattle.std.proofs.Math.Seq.{take-append-add}
+use Rattle.std.proofs.lemmas.List.{length-take, take_min}
+use Rattle.std.proofs.lemmas.Slice.{take-put_mid, drop-put_mid}
+use borrow.Rule.Slice.PartMut.{put_mid}
+use Rattle.text.specs.Added.{Added}
 use Rattle.text.proofs.put.put.Goals as goal
 
--- page₀ as the call begins, with `at` on it
-module _ (page₀ text : List ℕ) (at : ℕ) (on : at ≤ length page₀) where
-  front_length : length (take at page₀) ≡ at
-  front_length = length-take-le at page₀ on
+-- as many bytes of the text as there is room for, at their place
+module _ (page text bytes : List ℕ) (at count k : ℕ) (on : at ≤ length page) (many : count ≡ min (length page - at) (length text))
+    (same : k ≡ count) (are : bytes ≡ take count text) where
+  abbrev now : List ℕ
+  now = put_mid at k page bytes
 
-  -- one byte more
-  next : (page : List ℕ) (end i : ℕ) → end < length page → i < length text → take end page ≡ take at page₀ ++ take i text
-      → take (end + 1) (set page end (get_or text i 0)) ≡ take at page₀ ++ take (i + 1) text
-  next page end i room below before =
-      ap (λ n. take n (set page end (get_or text i 0))) (add-one end)
-      ∙ take-suc-set page end (get_or text i 0) room
-      ∙ ap (λ l. l ++ (get_or text i 0 ∷ [])) before
-      ∙ append_assoc (take at page₀) (take i text) (get_or text i 0 ∷ [])
-      ∙ ap (λ l. take at page₀ ++ l) (sym (ap (λ n. take n text) (add-one i) ∙ take-suc text i 0 below))
+  long : length bytes ≡ count
+  long = ap length are ∙ length-take-le count text (omega (arith, many))
 
-  -- the page is full
-  full : (i : ℕ) → at + i ≡ length page₀ → take at page₀ ++ take i text ≡ take (length page₀) (take at page₀ ++ text)
-  full i e =
-      sym (take-append-add (take at page₀) text i)
-      ∙ ap (λ n. take n (take at page₀ ++ text)) (ap (λ n. n + i) front_length ∙ e)
+  front : take (at + count) now ≡ take at page ++ bytes
+  front = take-put_mid at k page bytes (at + count) (omega (arith, long)) on
 
-  -- the text is put
-  whole : (i : ℕ) → length text ≤ i → at + i ≤ length page₀ → take at page₀ ++ take i text ≡ take (length page₀) (take at page₀ ++ text)
-  whole i passed room =
-      let fits : length (take at page₀ ++ text) ≤ length page₀ = omega (arith, length-append (take at page₀) text, front_length) in
-      ap (λ l. take at page₀ ++ l) (take_all i text passed) ∙ sym (take_all (length page₀) (take at page₀ ++ text) fits)
+  before : length (take at page) ≡ at
+  before = length-take-le at page on
 
-pub loop-i-init : goal.loop-i-init
-loop-i-init c = (refl, search rules, omega arith, sym (append-nil _), refl)
+  reached : length (take (at + count) now) ≡ at + count
+  reached = ap length front ∙ omega (arith, length-append (take at page) bytes, before, long)
 
-pub returns-then-page-end : goal.returns-then-page-end
-returns-then-page-end c =
-    let l = c.loop-i in
-    let front = l.invariant.3 ∙ full _ _ _ c.requires l.i (omega arith) in
-    record { counted = on_page _ _ (omega arith); from = omega arith; front = front; behind = l.invariant.4 }
-
-pub loop-i-preserved : goal.loop-i-preserved
-loop-i-preserved c =
-    let l = c.loop-i in (
-      simp length-set l.invariant.0,
-      omega arith,
-      omega arith,
-      next _ _ _ c.requires l.page l.end l.i (omega arith) (omega arith) l.invariant.3,
-      drop-set-lt (l.end + 1) l.page l.end _ (omega arith) ∙ further l.end (l.end + 1) _ _ (omega arith) l.invariant.4,
-    )
+  placed : Added page at text now (at + count)
+  placed = record {
+    counted = (omega (arith, reached, length-take (at + count) now), sym reached);
+    from = omega arith;
+    front =
+        front
+        ∙ ap (λ l. take at page ++ l) (are ∙ ap (λ n. take n text) many ∙ take_min (length page - at) text)
+        ∙ sym (take-append-add (take at page) text (length page - at))
+        ∙ ap (λ n. take n (take at page ++ text)) (omega (arith, before, on));
+    behind = drop-put_mid at k page bytes (at + count) (omega (arith, same)) on (omega (arith, long, same));
+  }
 
 pub returns : goal.returns
 returns c =
-    let l = c.loop-i in
-    let front = l.invariant.3 ∙ whole _ _ _ c.requires l.i c.loop-i-test.false (omega arith) in
-    record { counted = on_page _ _ (omega arith); from = omega arith; front = front; behind = l.invariant.4 }
+    placed c.args.page.now c.args.text.now _ c.args.at _ _ c.requires c.min-count.ensures (omega arith) c.copy_from_slice.ensures.after
