@@ -1,11 +1,9 @@
 -- The contracts of the residues: what they ask, and what they give.
-use Rattle.std.specs.Prelude.{ℕ, ◌+◌, ◌≤◌, ◌<◌, ◌≡◌, true, List, ℤ, nat_abs, ◌+ℤ◌, ◌*ℤ◌, length}
-use Rattle.integers.specs.Sum.{sum}
+use Rattle.std.specs.Prelude.{ℕ, ◌+◌, ◌≤◌, ◌<◌, ◌≡◌, true, List, ℤ, nat_abs, ◌+ℤ◌, ◌*ℤ◌, length, Option, MatchOption}
 use Rattle.definitions.specs.Words.{part}
 use Rattle.definitions.specs.Layout.{parts}
 use Rattle.definitions.specs.Refusals.{year_limit}
 use Rattle.definitions.specs.Matrix.{residue}
-use Rattle.chain.specs.declared.residues.RowSum.{RowSum}
 use Rattle.chain.specs.declared.residues.TestedResidues.{TestedResidues}
 use Rattle.chain.specs.Arrays.{system, mean_of, cell, row_product}
 use Rattle.chain.specs.Decides.{Decides}
@@ -27,10 +25,14 @@ pub record OfRow (μ v : List ℤ) (k : ℕ) : Type 0 where
   pub long : length v ≡ 31
   pub small : (i : ℕ) → i < k → nat_abs (part v i) ≤ residue_limit
 
-pub record RowTimes (A μ v : List ℤ) (k : ℕ) (r : RowSum) (w : List ℤ) : Type 0 where
-  pub fits : Decides (RowFits A k) r.fits
-  pub is : r.fits ≡ true → r.sum ≡ row_product A k k μ
-  pub mirrored : r.fits ≡ true → Turned k (λ i. part v i +ℤ cell A k i *ℤ part μ k) (part v) w
+pub record RowAdded (A μ v : List ℤ) (k : ℕ) (sum : ℤ) (w : List ℤ) : Type 0 where
+  pub fits : RowFits A k
+  pub is : sum ≡ row_product A k k μ
+  pub mirrored : Turned k (λ i. part v i +ℤ cell A k i *ℤ part μ k) (part v) w
+
+-- the sum just where the row fits
+abbrev pub RowTimes : List ℤ → List ℤ → List ℤ → ℕ → Option ℤ → List ℤ → Type 0
+RowTimes A μ v k r w = MatchOption r (¬ RowFits A k) (λ sum. RowAdded A μ v k sum w)
 
 -- ---- all rows
 

@@ -3,7 +3,7 @@ ghost use Rattle.std.specs.Prelude.{◌≡◌, nat_abs};
 ghost use Rattle.definitions.specs.Matrix.{is_passed};
 ghost use Rattle.chain.specs.Judge.{OwnFits, Tested, Passes, judgement_of};
 
-#[derive(Drop)]
+#[derive(Clone, Copy, Debug, PartialEq, Eq)]
 pub enum Judgement {
     Passed,
     // The first part that fails.
@@ -14,7 +14,7 @@ pub enum Judgement {
 pub fn size(z: i64) -> u64
     ensures { result ≡ nat_abs z }
 {
-    if z < 0 { (-1 - z) as u64 + 1 } else { z as u64 }
+    z.unsigned_abs()
 }
 
 // The first part that fails, or that all pass.
@@ -27,12 +27,8 @@ pub fn test<'a>(
     requires { OwnFits last closeness own.now }
     ensures { Tested last closeness own.now residues.now result }
 {
-    let parts = 2 * last + 1;
-    let mut k = 0;
-    while k < parts {
-        if size(residues[k]) <= closeness * own[k] {
-            k += 1;
-        } else {
+    for k in 0..2 * last + 1 {
+        if closeness * own[k] < residues[k].unsigned_abs() {
             return Judgement::Fails(k);
         }
     }
@@ -43,10 +39,7 @@ pub fn test<'a>(
 pub fn is_passed(j: Judgement) -> bool
     ensures { result ≡ is_passed (judgement_of j) }
 {
-    match j {
-        Judgement::Passed => true,
-        Judgement::Fails(_) => false,
-    }
+    j == Judgement::Passed
 }
 
 // Whether residues that are at hand pass.

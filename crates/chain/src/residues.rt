@@ -8,12 +8,6 @@ ghost use Rattle.chain.specs.Residues.{OfRow, RowTimes, OfMean, TestedOf};
 // What an entry off the diagonal may be in size.
 const ENTRY_LIMIT: i64 = 2_147_483_647;
 
-#[derive(Drop)]
-struct RowSum {
-    fits: bool,
-    sum: i64,
-}
-
 // The residues where every row fits.
 #[derive(Drop)]
 pub struct TestedResidues {
@@ -25,37 +19,32 @@ pub struct TestedResidues {
 pub fn entry_fits(entry: i64) -> bool
     ensures { Decides (nat_abs entry ≤ entry_limit) result }
 {
-    if entry < -ENTRY_LIMIT {
-        return false;
-    }
-    if ENTRY_LIMIT < entry {
-        return false;
-    }
-    true
+    -ENTRY_LIMIT <= entry && entry <= ENTRY_LIMIT
 }
 
-// Row k up to its diagonal times the mean. The residues of the parts before k have the products of the mirrored entries added.
-fn row_times(matrix: &[i64; 961], mean: &[i64; 31], residues: &mut [i64; 31], k: usize) -> RowSum
+// Row k up to its diagonal times the mean, where its entries fit. The residues of the parts before k have the products of the mirrored
+// entries added.
+fn row_times(
+    matrix: &[i64; 961],
+    mean: &[i64; 31],
+    residues: &mut [i64; 31],
+    k: usize,
+) -> Option<i64>
     requires { OfRow mean.now residues.old k }
     ensures { RowTimes matrix.now mean.now residues.old k result residues.new }
 {
     let row = 31 * k;
     let own = mean[k];
-    let mut sum = 0i64;
-    let mut l = 0usize;
-    while l < k {
+    let mut sum = 0;
+    for l in 0..k {
         let entry = matrix[row + l];
         if !entry_fits(entry) {
-            return RowSum {
-                fits: false,
-                sum: 0,
-            };
+            return None;
         }
         sum += entry * mean[l];
-        residues[l] = residues[l] + entry * own;
-        l += 1;
+        residues[l] += entry * own;
     }
-    RowSum { fits: true, sum }
+    Some(sum)
 }
 
 // The residues of a mean, part by part; 0 behind the last part.
@@ -68,19 +57,15 @@ pub fn residues<'a>(
     requires { OfMean last matrix.now right_hand.now mean.now }
     ensures { TestedOf last matrix.now right_hand.now mean.now result }
 {
-    let parts = 2 * last + 1;
     let mut found = [0i64; 31];
-    let mut k = 0usize;
-    while k < parts {
-        let row = row_times(matrix, mean, &mut found, k);
-        if !row.fits {
+    for k in 0..2 * last + 1 {
+        let Some(sum) = row_times(matrix, mean, &mut found, k) else {
             return TestedResidues {
                 fit: false,
                 residues: found,
             };
-        }
-        found[k] = row.sum + matrix[31 * k + k] * mean[k] - right_hand[k];
-        k += 1;
+        };
+        found[k] = sum + matrix[31 * k + k] * mean[k] - right_hand[k];
     }
     TestedResidues {
         fit: true,

@@ -1,7 +1,6 @@
 -- The residues of a mean. Shown: the rows below k fit, and the residues of the parts below k have their first k products. Assumes nothing.
 use Prim.Native.Nat.{ℕ, ◌+◌, ◌*◌, ◌^◌, ◌≤◌, ◌<◌}
 use mathlib.Core.Path.{◌≡◌, refl, sym, ap, ap₂, ◌∙◌, subst}
-use mathlib.Core.Bool.{false≢true}
 use mathlib.Core.List.{List, [], ◌∷◌}
 use native.Mathlib.Nat.{le_refl}
 use native.Mathlib.Omega.{arith}
@@ -10,21 +9,21 @@ use lib.ListN.{set}
 use mir.Syntax.{w64}
 use Rattle.integers.specs.Size.{fits, kept, nat_abs-*-≤}
 use Rattle.integers.specs.Solver.{ring, ◌⊞◌, ◌⊟◌, ◌≐◌}
-use Rattle.integers.specs.Sum.{sum, sum_next}
+use Rattle.integers.specs.Sum.{sum_next}
 use Rattle.integers.specs.Total.{sizes, total_next}
 use Rattle.definitions.specs.Words.{part}
 use Rattle.definitions.specs.Layout.{parts}
 use Rattle.laws.proofs.Filled.{empty_at}
 use Rattle.chain.specs.Arrays.{mean_of, cell, cell_at, cell_mirrored, row_product}
 use Rattle.integers.specs.Bits.{stored, read}
-use Rattle.chain.specs.Decides.{decided_yes, decided_no, not_yes, not_no}
+use Rattle.chain.specs.Decides.{decided_yes}
 use Rattle.chain.specs.Fitting.{Inside, row_limit, residue_limit}
 use Rattle.chain.specs.Residues.{OfMean, RowFits, RowsFit}
 use Rattle.chain.specs.Sizes.{row_fits, sum_fits, difference_fits, mean_at_lem, residue_at_lem}
 use Rattle.chain.specs.Turned.{Turned, turned_none, turned_next, turned_as, here_or_before}
 use Rattle.chain.proofs.residues.residues.Invariants.{so_far_of}
 use Rattle.chain.proofs.residues.residues.Goals as goal
-use Rattle.chain.proofs.residues.residues.Goals.{Else-not-row}
+use Rattle.chain.proofs.residues.residues.Goals.{In-Some}
 
 -- the first n rows fit
 module _ {last : ℕ} {A b μ : List ℤ} (h : OfMean last A b μ) (n : ℕ) (few : n ≤ parts last) (rows : RowsFit A n) where
@@ -102,108 +101,41 @@ module _ {last : ℕ} {A b μ : List ℤ} {k : ℕ} {z : ℤ} (h : Reached last 
         turned_next (turned_as mirrored (λ i i-below. with_mirrored i (so_far.front i i-below)) so_far.rest)
         (omega (arith, h.below, h.asked.years)) (kept w64 difference difference_small)
 
-pub overflow_mul-parts : goal.overflow_mul-parts
-overflow_mul-parts c = omega (arith, c.requires.years)
-
-pub overflow_add-parts : goal.overflow_add-parts
-overflow_add-parts c = omega (arith, c.requires.years)
-
 pub loop-k-init : goal.loop-k-init
-loop-k-init c = (omega arith, λ i none. absurd (omega arith), turned_none refl (λ i. empty_at 31 i (pos 0)))
+loop-k-init c = (λ i none. absurd (omega arith), turned_none refl (λ i. empty_at 31 i (pos 0)))
 
-pub row_times-row-requires : goal.row_times-row-requires
-row_times-row-requires c =
+pub row_times-requires : goal.row_times-requires
+row_times-requires c =
     let at = c.loop-k in
-    let below = c.loop-k-test.true in
-    let small-so-far = so_far_small c.requires at.k at.invariant.0 at.invariant.1 in
+    let small-so-far = so_far_small c.requires at.k (omega (arith, c.loop-k-test.true)) at.invariant.0 in
     record {
-      few = omega (arith, c.requires.years);
-      inside = record { small = λ i i-below. c.requires.inside.small i (omega arith) };
-      long = at.invariant.2.long;
-      small = λ i i-below. subst (λ r. nat_abs r ≤ residue_limit) (sym (at.invariant.2.front i i-below)) (small-so-far i i-below);
-    }
-
-pub returns-then-not-row : goal.returns-then-not-row
-returns-then-not-row c =
-    let row = c.row_times-row.ensures.fits in
-    record {
-      fit = decided_no (λ all. row.when_no (not_yes c.if-not-row.true) (all c.loop-k.k c.loop-k-test.true));
-      are = λ e. absurd (false≢true e);
+      few = omega (arith, c.loop-k-test.true, c.requires.years);
+      inside = record { small = λ i i-below. c.requires.inside.small i (omega (arith, c.loop-k-test.true)) };
+      long = at.invariant.1.long;
+      small = λ i i-below. subst (λ r. nat_abs r ≤ residue_limit) (sym (at.invariant.1.front i i-below)) (small-so-far i i-below);
     }
 
 -- a row that fits
-module _ (c : Else-not-row) where
-  below : c.loop-k.k < parts c.args.last
-  below = c.loop-k-test.true
-
-  in_array : c.loop-k.k < 31
-  in_array = omega (arith, below, c.requires.years)
-
-  reached : Reached c.args.last c.args.matrix.now c.args.right_hand.now c.args.mean.now
-      c.loop-k.k c.row_times-row.result.sum
-  reached =
-      let row = c.row_times-row.ensures in
-      let fits-too = row.fits.when_yes (not_no c.if-not-row.false) in
-      record {
-        asked = c.requires;
-        below = below;
-        rows = here_or_before (RowFits c.args.matrix.now) c.loop-k.k fits-too c.loop-k.invariant.1;
-        sums = row.is (not_no c.if-not-row.false);
-      }
-
-pub overflow_mul-found : goal.overflow_mul-found
-overflow_mul-found c = omega (arith, in_array c)
-
-pub overflow_add-found : goal.overflow_add-found
-overflow_add-found c = omega (arith, in_array c)
-
-pub offset_bounds-matrix-k : goal.offset_bounds-matrix-k
-offset_bounds-matrix-k c = omega (arith, in_array c)
-
-pub bounds-matrix-k : goal.bounds-matrix-k
-bounds-matrix-k c = omega (arith, in_array c)
-
-pub offset_bounds-mean-k : goal.offset_bounds-mean-k
-offset_bounds-mean-k c = omega (arith, in_array (goal.at.offset_bounds-mean-k c).Else-not-row)
-
-pub bounds-mean-k : goal.bounds-mean-k
-bounds-mean-k c = in_array (goal.at.bounds-mean-k c).Else-not-row
+reached : (c : In-Some) → Reached c.args.last c.args.matrix.now c.args.right_hand.now c.args.mean.now c.loop-k.k c.in-Some.sum
+reached c = record {
+  asked = c.requires;
+  below = c.loop-k-test.true;
+  rows = here_or_before (RowFits c.args.matrix.now) c.loop-k.k c.in-Some.ensures.fits c.loop-k.invariant.0;
+  sums = c.in-Some.ensures.is;
+}
 
 pub overflow_mul-found-in-loop-k : goal.overflow_mul-found-in-loop-k
-overflow_mul-found-in-loop-k c = let h = reached (goal.at.overflow_mul-found-in-loop-k c).Else-not-row in fits (product h) (product_small h)
+overflow_mul-found-in-loop-k c = let h = reached (goal.at.overflow_mul-found-in-loop-k c).In-Some in fits (product h) (product_small h)
 
 pub overflow_add-found-in-loop-k : goal.overflow_add-found-in-loop-k
-overflow_add-found-in-loop-k c = let h = reached (goal.at.overflow_add-found-in-loop-k c).Else-not-row in fits (total h) (total_small h)
-
-pub offset_bounds-right_hand-k : goal.offset_bounds-right_hand-k
-offset_bounds-right_hand-k c = omega (arith, in_array (goal.at.offset_bounds-right_hand-k c).Else-not-row)
-
-pub bounds-right_hand-k : goal.bounds-right_hand-k
-bounds-right_hand-k c = in_array (goal.at.bounds-right_hand-k c).Else-not-row
+overflow_add-found-in-loop-k c = let h = reached (goal.at.overflow_add-found-in-loop-k c).In-Some in fits (total h) (total_small h)
 
 pub overflow_sub-found : goal.overflow_sub-found
-overflow_sub-found c = let h = reached (goal.at.overflow_sub-found c).Else-not-row in fits (difference h) (difference_small h)
-
-pub offset_bounds-found-k : goal.offset_bounds-found-k
-offset_bounds-found-k c = omega (arith, in_array (goal.at.offset_bounds-found-k c).Else-not-row)
-
-pub bounds-found-k : goal.bounds-found-k
-bounds-found-k c = in_array (goal.at.bounds-found-k c).Else-not-row
-
-pub overflow_add-k : goal.overflow_add-k
-overflow_add-k c = omega (arith, in_array (goal.at.overflow_add-k c).Else-not-row)
-
-pub loop-k-smaller : goal.loop-k-smaller
-loop-k-smaller c = omega (arith, below (goal.at.loop-k-smaller c).Else-not-row)
+overflow_sub-found c = let h = reached (goal.at.overflow_sub-found c).In-Some in fits (difference h) (difference_small h)
 
 pub loop-k-preserved : goal.loop-k-preserved
 loop-k-preserved c =
-    let else_not_row = (goal.at.loop-k-preserved c).Else-not-row in
-    let h = reached else_not_row in (
-      omega (arith, below else_not_row),
-      h.rows,
-      next h c.loop-k.invariant.2 (c.row_times-row.ensures.mirrored (not_no c.if-not-row.false)),
-    )
+    let h = reached (goal.at.loop-k-preserved c).In-Some in (h.rows, next h c.loop-k.invariant.1 c.in-Some.ensures.mirrored)
 
 pub returns : goal.returns
 returns c =
@@ -211,11 +143,11 @@ returns c =
     let A = c.args.matrix.now in
     let b = c.args.right_hand.now in
     let μ = c.args.mean.now in
-    let all : at.k ≡ parts c.args.last = omega (arith, at.invariant.0, c.loop-k-test.false) in
+    let all : at.k ≡ parts c.args.last = omega (arith, at.auto.k-end, c.loop-k-test.false) in
     record {
-      fit = decided_yes (λ k below. at.invariant.1 k (omega arith));
+      fit = decided_yes (λ k below. at.invariant.0 k (omega arith));
       are = λ _. record {
-        at = λ k below. at.invariant.2.front k (omega arith)
+        at = λ k below. at.invariant.1.front k (omega arith)
             ∙ ap₂ (λ n y. row_product A k n μ -ℤ y) all (sym (mean_at_lem c.args.last b k below))
             ∙ sym (residue_at_lem c.args.last A (mean_of c.args.last b) μ k below);
       };

@@ -1,9 +1,8 @@
 -- The residues of a mean. Shown: the rows below k fit, and the residues of the parts below k have their first k products. Assumes nothing.
-use Prim.Native.Nat.{ℕ, ◌-◌, ◌≤◌}
+use Prim.Native.Nat.{ℕ}
 use mathlib.Core.List.{List}
 use lib.IntN.{ℤ, pos, ◌-ℤ◌}
 use Rattle.definitions.specs.Words.{part}
-use Rattle.definitions.specs.Layout.{parts}
 use Rattle.chain.specs.Arrays.{row_product}
 use Rattle.chain.specs.Residues.{RowsFit}
 use Rattle.chain.specs.Turned.{Turned}
@@ -15,7 +14,4 @@ so_far_of A b μ n i = row_product A i n μ -ℤ part b i
 
 abbrev pub invariant-loop-k : goal.invariant-loop-k
 invariant-loop-k l =
-    (l.k ≤ l.parts) × RowsFit l.matrix l.k × Turned l.k (so_far_of l.matrix l.right_hand l.mean l.k) (λ i. pos 0) l.found
-
-abbrev pub decreases-loop-k : goal.decreases-loop-k
-decreases-loop-k l = l.parts - l.k
+    RowsFit l.matrix l.k × Turned l.k (so_far_of l.matrix l.right_hand l.mean l.k) (λ i. pos 0) l.found

@@ -2,7 +2,6 @@
 -- so far have the mirrored products added. None of them wraps, since the entries and the mean are in the bounds. Assumes nothing.
 use Prim.Native.Nat.{ℕ, ◌+◌, ◌*◌, ◌^◌, ◌≤◌, ◌<◌}
 use mathlib.Core.Path.{◌≡◌, refl, sym, ◌∙◌, ap, ap₂, subst}
-use mathlib.Core.Bool.{false≢true}
 use mathlib.Core.List.{List}
 use native.Mathlib.Nat.{le_refl, mul-le-mul_right}
 use native.Mathlib.Omega.{arith}
@@ -16,12 +15,12 @@ use Rattle.definitions.specs.Words.{part}
 use Rattle.definitions.specs.Refusals.{part_limit}
 use Rattle.chain.specs.Arrays.{cell, cell_at, row_product}
 use Rattle.integers.specs.Bits.{stored, read, same}
-use Rattle.chain.specs.Decides.{Decides, decided_yes, decided_no}
+use Rattle.chain.specs.Decides.{Decides}
 use Rattle.chain.specs.Fitting.{entry_limit}
 use Rattle.chain.specs.Residues.{OfRow}
-use Rattle.chain.specs.Turned.{Turned, turned_none, turned_next, here_or_before}
+use Rattle.chain.specs.Turned.{turned_none, turned_next, here_or_before}
 use Rattle.chain.proofs.residues.row_times.Goals as goal
-use Rattle.chain.proofs.residues.row_times.Goals.{After-entry_fits, After-residues-1, Else-not-entry_fits, In-loop-l}
+use Rattle.chain.proofs.residues.row_times.Goals.{After-entry_fits, Else-not-entry_fits}
 
 -- the row has come to its entry l, which is in the bounds as those before it are
 record Reached (A μ v : List ℤ) (k l : ℕ) : Type 0 where
@@ -71,48 +70,20 @@ module _ {A μ v : List ℤ} {k l : ℕ} (h : Reached A μ v k l) where
         let added = product_size l k (omega arith) (omega arith) in
         omega (arith, nat_abs-+ (part v l) (cell A k l *ℤ part μ k), h.asked.small l h.below, added)
 
-pub overflow_mul-row : goal.overflow_mul-row
-overflow_mul-row c = omega (arith, c.requires.few)
-
-pub offset_bounds-mean-k : goal.offset_bounds-mean-k
-offset_bounds-mean-k c = omega (arith, c.requires.few)
-
-pub bounds-mean-k : goal.bounds-mean-k
-bounds-mean-k c = c.requires.few
-
 pub loop-l-init : goal.loop-l-init
-loop-l-init c = (omega arith, λ i none. absurd (omega arith), sym (sum_zero _), turned_none c.requires.long (λ i. refl))
-
--- the place of the entry
-place : (c : In-loop-l) → 31 * c.args.k + c.loop-l.l < 961
-place c = omega (arith, c.requires.few, c.loop-l-test.true)
-
-pub overflow_add-entry : goal.overflow_add-entry
-overflow_add-entry c = omega (arith, place c)
-
-pub offset_bounds-matrix-row : goal.offset_bounds-matrix-row
-offset_bounds-matrix-row c = omega (arith, place c)
-
-pub bounds-matrix-row : goal.bounds-matrix-row
-bounds-matrix-row c = place c
+loop-l-init c = (λ i none. absurd (omega arith), sym (sum_zero _), turned_none c.requires.long (λ i. refl))
 
 -- whether the entry is in the bounds
-decided : (c : After-entry_fits)
-    → Decides (nat_abs (cell c.args.matrix.now c.args.k c.loop-l.l) ≤ entry_limit) c.entry_fits.result
+decided : (c : After-entry_fits) → Decides (nat_abs (cell c.args.matrix.now c.args.k c.loop-l.l) ≤ entry_limit) c.entry_fits.result
 decided c =
     subst (λ z. Decides (nat_abs z ≤ entry_limit) c.entry_fits.result)
-    (same (part c.args.matrix.now (31 * c.args.k + c.loop-l.l)) c.entry-1.given
+    (same (part c.args.matrix.now (31 * c.args.k + c.loop-l.l)) (omega arith)
     ∙ sym (cell_at c.args.matrix.now c.args.k c.loop-l.l (omega (arith, c.loop-l-test.true))))
     c.entry_fits.ensures
 
 pub returns-then-not-entry_fits : goal.returns-then-not-entry_fits
-returns-then-not-entry_fits c =
-    let too_large = (decided (goal.at.returns-then-not-entry_fits c).After-entry_fits).when_no c.if-not-entry_fits.true in
-    record {
-      fits = decided_no (λ entries. too_large (entries c.loop-l.l c.loop-l-test.true));
-      is = λ e. absurd (false≢true e);
-      mirrored = λ e. absurd (false≢true e);
-    }
+returns-then-not-entry_fits c = λ entries.
+    (decided (goal.at.returns-then-not-entry_fits c).After-entry_fits).when_no c.if-not-entry_fits.true (entries c.loop-l.l c.loop-l-test.true)
 
 -- an entry in the bounds
 module _ (c : Else-not-entry_fits) where
@@ -123,17 +94,12 @@ module _ (c : Else-not-entry_fits) where
       record {
         asked = c.requires;
         below = c.loop-l-test.true;
-        entries = here_or_before InBounds c.loop-l.l here c.loop-l.invariant.1;
+        entries = here_or_before InBounds c.loop-l.l here c.loop-l.invariant.0;
       }
 
-  in_array : c.loop-l.l < 31
-  in_array = omega (arith, c.requires.few, c.loop-l-test.true)
-
-pub offset_bounds-mean-l : goal.offset_bounds-mean-l
-offset_bounds-mean-l c = omega (arith, in_array c)
-
-pub bounds-mean-l : goal.bounds-mean-l
-bounds-mean-l c = in_array c
+  -- the residue of its part, which is as it was
+  old : part c.loop-l.residues c.loop-l.l ≡ part c.args.residues.now c.loop-l.l
+  old = c.loop-l.invariant.2.rest c.loop-l.l (le_refl c.loop-l.l)
 
 pub overflow_mul-sum : goal.overflow_mul-sum
 overflow_mul-sum c =
@@ -145,21 +111,7 @@ pub overflow_add-sum : goal.overflow_add-sum
 overflow_add-sum c =
     let h = reached (goal.at.overflow_add-sum c).Else-not-entry_fits in
     let now-at = c.loop-l in
-    fits (summed h now-at.sum-bits now-at.invariant.2) (summed_small h now-at.sum-bits now-at.invariant.2)
-
-pub offset_bounds-residues-l : goal.offset_bounds-residues-l
-offset_bounds-residues-l c = omega (arith, in_array (goal.at.offset_bounds-residues-l c).Else-not-entry_fits)
-
-pub bounds-residues-l : goal.bounds-residues-l
-bounds-residues-l c = in_array (goal.at.bounds-residues-l c).Else-not-entry_fits
-
--- the residue of part l, which is as it was
-module _ (c : After-residues-1) where
-  abbrev x : ℤ
-  x = part c.loop-l.residues c.loop-l.l
-
-  old : x ≡ part c.args.residues.now c.loop-l.l
-  old = c.loop-l.invariant.3.rest c.loop-l.l (le_refl c.loop-l.l)
+    fits (summed h now-at.sum-bits now-at.invariant.1) (summed_small h now-at.sum-bits now-at.invariant.1)
 
 pub overflow_mul-residues : goal.overflow_mul-residues
 overflow_mul-residues c =
@@ -168,42 +120,17 @@ overflow_mul-residues c =
     fits (product h k (omega arith)) (product_small h k (omega arith))
 
 pub overflow_add-residues : goal.overflow_add-residues
-overflow_add-residues c = let h =
-    reached (goal.at.overflow_add-residues c).Else-not-entry_fits in fits (mirrored h (x c) (old c)) (mirrored_small h (x c) (old c))
-
-pub offset_bounds-residues-l-in-loop-l : goal.offset_bounds-residues-l-in-loop-l
-offset_bounds-residues-l-in-loop-l c = omega (arith, in_array (goal.at.offset_bounds-residues-l-in-loop-l c).Else-not-entry_fits)
-
-pub bounds-residues-l-in-loop-l : goal.bounds-residues-l-in-loop-l
-bounds-residues-l-in-loop-l c = in_array (goal.at.bounds-residues-l-in-loop-l c).Else-not-entry_fits
-
-pub overflow_add-l : goal.overflow_add-l
-overflow_add-l c = omega (arith, in_array (goal.at.overflow_add-l c).Else-not-entry_fits)
-
-pub loop-l-smaller : goal.loop-l-smaller
-loop-l-smaller c = omega (arith, (reached (goal.at.loop-l-smaller c).Else-not-entry_fits).below)
+overflow_add-residues c =
+    let at = (goal.at.overflow_add-residues c).Else-not-entry_fits in
+    fits (mirrored (reached at) _ (old at)) (mirrored_small (reached at) _ (old at))
 
 pub loop-l-preserved : goal.loop-l-preserved
 loop-l-preserved c =
-    let else_not_entry_fits = (goal.at.loop-l-preserved c).Else-not-entry_fits in
-    let h = reached else_not_entry_fits in
+    let at = (goal.at.loop-l-preserved c).Else-not-entry_fits in
+    let h = reached at in
     let now-at = c.loop-l in (
-      omega (arith, h.below),
       h.entries,
-      kept w64 (summed h now-at.sum-bits now-at.invariant.2) (summed_small h now-at.sum-bits now-at.invariant.2),
-      turned_next now-at.invariant.3 (in_array else_not_entry_fits) (kept w64 (mirrored h (x c) (old c)) (mirrored_small h (x c) (old c))),
+      kept w64 (summed h now-at.sum-bits now-at.invariant.1) (summed_small h now-at.sum-bits now-at.invariant.1),
+      turned_next now-at.invariant.2 (omega (arith, h.below, c.requires.few))
+          (kept w64 (mirrored h _ (old at)) (mirrored_small h _ (old at))),
     )
-
-pub returns : goal.returns
-returns c =
-    let at = c.loop-l in
-    let k = c.args.k in
-    let A = c.args.matrix.now in
-    let μ = c.args.mean.now in
-    let v = c.args.residues.now in
-    let all : at.l ≡ k = omega (arith, at.invariant.0, c.loop-l-test.false) in
-    record {
-      fits = decided_yes (λ i below. at.invariant.1 i (omega arith));
-      is = λ _. at.invariant.2 ∙ ap (λ n. row_product A k n μ) all;
-      mirrored = λ _. subst (λ n. Turned n (λ i. part v i +ℤ cell A k i *ℤ part μ k) (part v) at.residues) all at.invariant.3;
-    }
