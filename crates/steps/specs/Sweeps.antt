@@ -148,18 +148,18 @@ module _ {F : Figures} {w : Working} {total n : ℕ} {current : Working} {run le
   abbrev G : D.Figures
   G = figures_of F
 
-  pub run_settled : passed ≡ true → SweptTo F w total n (record { working = current; total = run; passes = true })
+  pub run_settled : passed ≡ true → SweptTo F w total n (record { working = current; total = run; passes = passed })
   run_settled p = record {
     is = sym (sweeps_settled G (mean_in F current) run left (sym h.passing ∙ p)) ∙ h.rest;
     holds = h.holds;
-    passing = sym p ∙ h.passing;
+    passing = h.passing;
   }
 
-  pub run_spent : passed ≡ false → sweep_limit ≤ run → SweptTo F w total n (record { working = current; total = run; passes = false })
+  pub run_spent : passed ≡ false → sweep_limit ≤ run → SweptTo F w total n (record { working = current; total = run; passes = passed })
   run_spent p l = record {
     is = sym (sweeps_spent G (mean_in F current) run left (sym h.passing ∙ p) l) ∙ h.rest;
     holds = h.holds;
-    passing = sym p ∙ h.passing;
+    passing = h.passing;
   }
 
   pub run_out : left ≤ 0 → SweptTo F w total n (record { working = current; total = run; passes = passed })

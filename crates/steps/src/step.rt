@@ -14,15 +14,11 @@ fn follow(last: usize, matrix: &[i64; 961], residues: &mut [i64; 31], k: usize, 
     if change == 0 {
         return;
     }
-    let parts = 2 * last + 1;
-    let mut l = 0;
-    while l < k {
-        residues[l] = residues[l] + matrix[31 * k + l] * change;
-        l += 1;
+    for l in 0..k {
+        residues[l] += matrix[31 * k + l] * change;
     }
-    while l < parts {
-        residues[l] = residues[l] + matrix[31 * l + k] * change;
-        l += 1;
+    for l in k..2 * last + 1 {
+        residues[l] += matrix[31 * l + k] * change;
     }
 }
 

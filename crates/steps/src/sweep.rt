@@ -29,10 +29,8 @@ fn sweep_from(
     ensures { SweptFrom last matrix.now working first end result }
 {
     let mut current = working;
-    let mut k = first;
-    while k < end {
+    for k in first..end {
         step_in(&mut current, last, matrix, k);
-        k += 1;
     }
     current
 }
@@ -62,26 +60,13 @@ pub fn sweeps<'a>(
 {
     let mut current = working;
     let mut run = total;
-    let mut left = n;
     let mut passed = passes(last, closeness, own, &current.residues);
-    while 0 < left {
-        if passed {
-            return Swept {
-                working: current,
-                total: run,
-                passes: true,
-            };
-        }
-        if SWEEP_LIMIT <= run {
-            return Swept {
-                working: current,
-                total: run,
-                passes: false,
-            };
+    for _ in 0..n {
+        if passed || SWEEP_LIMIT <= run {
+            break;
         }
         current = one_sweep(last, matrix, current);
         run += 1;
-        left -= 1;
         passed = passes(last, closeness, own, &current.residues);
     }
     Swept {

@@ -1,6 +1,5 @@
 -- The residues follow a change of one part. Shown: the residues below l have the column's product added, and those from l on have not; up to the diagonal the
 -- column is read by its mirror. Assumes nothing.
-use Prim.Native.Nat.{◌-◌, ◌≤◌}
 use lib.Dec.{leb}
 use lib.IntN.{◌+ℤ◌, ◌*ℤ◌}
 use Rattle.integers.specs.SumRange.{only}
@@ -11,15 +10,8 @@ use Rattle.steps.proofs.step.follow.Given as goal
 
 abbrev pub invariant-loop-l : goal.invariant-loop-l
 invariant-loop-l l =
-    (l.l ≤ l.k) × Turned l.l (λ i. part l.initial.residues i +ℤ cell l.matrix i l.k *ℤ l.change) (part l.initial.residues) l.residues
-
-abbrev pub decreases-loop-l : goal.decreases-loop-l
-decreases-loop-l l = l.k - l.l
+    Turned l.l (λ i. part l.initial.residues i +ℤ cell l.matrix i l.k *ℤ l.change) (part l.initial.residues) l.residues
 
 abbrev pub invariant-loop-l-2 : goal.invariant-loop-l-2
 invariant-loop-l-2 l =
-    (l.k ≤ l.l) × (l.l ≤ l.parts)
-    × Turned l.l (λ i. part l.initial.residues i +ℤ only (leb l.k i) (cell l.matrix i l.k *ℤ l.change)) (part l.initial.residues) l.residues
-
-abbrev pub decreases-loop-l-2 : goal.decreases-loop-l-2
-decreases-loop-l-2 l = l.parts - l.l
+    Turned l.l (λ i. part l.initial.residues i +ℤ only (leb l.k i) (cell l.matrix i l.k *ℤ l.change)) (part l.initial.residues) l.residues
