@@ -24,6 +24,10 @@ unsigned_next n at s h =
     let within : n < length (drop at s) = simp length-drop (omega arith) in
     rw (add-one n, take-suc (drop at s) n 0 within, big_endian_snoc, get_or-drop at s n 0)
 
+-- of a string's first bytes
+pub unsigned_front : (n : ℕ) (s : Bytes) → n < length s → unsigned (n + 1) 0 s ≡ unsigned n 0 s * 256 + get_or s n 0
+unsigned_front n s h = rw (zero-add n) at (unsigned_next n 0 s (rw (zero-add n) h))
+
 pub unsigned_one : (at : ℕ) (s : Bytes) → at < length s → unsigned 1 at s ≡ get_or s at 0
 unsigned_one at s h =
     unsigned_next 0 at s (omega arith) ∙ rw (unsigned_none at s, add-zero at) (zero-add (get_or s at 0))

@@ -1,3 +1,2 @@
 -- What a reading of a field finds.
 pub mod Fields
-pub mod Put

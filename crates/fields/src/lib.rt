@@ -1,92 +1,57 @@
-// Fields of a lent byte string: a place in, and out the field's value or the end of the reading.
+// Fields of a lent byte string: a place in, and out the field's value, if the string has all of its bytes.
 #![tactic(auto)]
 
-ghost use Rattle.std.specs.Prelude.{◌≡◌, ◌+◌, ◌≤◌, length};
-ghost use Rattle.definitions.specs.Layout.{unsigned};
+ghost use Rattle.std.specs.Prelude.{◌≡◌, ◌≤◌, length};
+ghost use Rattle.definitions.specs.Layout.{big_endian};
 ghost use Rattle.fields.specs.Fields.{byte_field_at, field_at, signed_field_at};
 
 pub mod put;
 
-#[derive(Drop)]
-pub enum Field {
-    Value(u64),
-    // Fewer bytes are left than the field has.
-    End,
-}
-
-// Of one byte.
-#[derive(Drop)]
-pub enum ByteField {
-    Value(u8),
-    End,
-}
-
-#[derive(Drop)]
-pub enum SignedField {
-    Value(i64),
-    End,
-}
-
 // Big-endian: one loop for the longer fields.
-fn number(s: &[u8], at: usize, width: usize) -> u64
-    requires { (width ≤ 8) × (at + width ≤ length s.now) }
-    ensures { result ≡ unsigned width at s.now }
+fn number(bytes: &[u8]) -> u64
+    requires { length bytes.now ≤ 8 }
+    ensures { result ≡ big_endian 0 bytes.now }
 {
     let mut value = 0u64;
-    let mut i = 0usize;
-    while i < width {
-        let byte = s[at + i] as u64;
-        value = value * 256 + byte;
-        i += 1;
+    for byte in bytes {
+        value = value * 256 + u64::from(*byte);
     }
     value
 }
 
-fn unsigned(s: &[u8], at: usize, width: usize) -> Field
+// None where fewer bytes are left than the field has.
+fn unsigned(s: &[u8], at: usize, width: usize) -> Option<u64>
     requires { width ≤ 8 }
     ensures { result ≡ field_at width at s.now }
 {
-    if s.len() < at {
-        return Field::End;
+    if s.len() < at || s.len() - at < width {
+        return None;
     }
-    if s.len() - at < width {
-        return Field::End;
-    }
-    Field::Value(number(s, at, width))
+    Some(number(&s[at..at + width]))
 }
 
-pub fn unsigned_1(s: &[u8], at: usize) -> ByteField
+pub fn unsigned_1(s: &[u8], at: usize) -> Option<u8>
     ensures { result ≡ byte_field_at at s.now }
 {
-    if at < s.len() {
-        ByteField::Value(s[at])
-    } else {
-        ByteField::End
-    }
+    s.get(at).copied()
 }
 
-pub fn unsigned_4(s: &[u8], at: usize) -> Field
+pub fn unsigned_4(s: &[u8], at: usize) -> Option<u64>
     ensures { result ≡ field_at 4 at s.now }
 {
     unsigned(s, at, 4)
 }
 
-pub fn unsigned_8(s: &[u8], at: usize) -> Field
+pub fn unsigned_8(s: &[u8], at: usize) -> Option<u64>
     ensures { result ≡ field_at 8 at s.now }
 {
     unsigned(s, at, 8)
 }
 
 // A 4-byte field in two's complement.
-pub fn signed_4(s: &[u8], at: usize) -> SignedField
+pub fn signed_4(s: &[u8], at: usize) -> Option<i64>
     ensures { result ≡ signed_field_at at s.now }
 {
-    let Field::Value(v) = unsigned_4(s, at) else {
-        return SignedField::End;
-    };
-    if v < 2147483648 {
-        SignedField::Value(v as i64)
-    } else {
-        SignedField::Value(v as i64 - 4294967296)
-    }
+    let word = unsigned_4(s, at)? as u32;
+    Some(i64::from(word.cast_signed()))
 }

@@ -7,16 +7,13 @@ pub fn put_four(buf: &mut [u8], at: usize, v: u64)
     requires { at + 4 ≤ length buf.old }
     ensures { Put 4 buf.old at v buf.new }
 {
-    buf[at] = (v / 256 / 256 / 256 % 256) as u8;
-    buf[at + 1] = (v / 256 / 256 % 256) as u8;
-    buf[at + 2] = (v / 256 % 256) as u8;
-    buf[at + 3] = (v % 256) as u8;
+    let word = (v % 4294967296) as u32;
+    buf[at..at + 4].copy_from_slice(&word.to_be_bytes());
 }
 
 pub fn put_eight(buf: &mut [u8], at: usize, v: u64)
     requires { at + 8 ≤ length buf.old }
     ensures { Put 8 buf.old at v buf.new }
 {
-    put_four(buf, at, v / 4294967296);
-    put_four(buf, at + 4, v);
+    buf[at..at + 8].copy_from_slice(&v.to_be_bytes());
 }

@@ -1,46 +1,36 @@
--- `fields::number` meets its contract. The loop's invariant: the value is the field of the bytes passed. The measure is how many
--- bytes are left.
-use Prim.Native.Nat.{◌+◌, ◌*◌, ◌<◌, ◌^◌}
-use mathlib.Core.Path.{◌≡◌, sym, ap, ◌∙◌}
-use native.Mathlib.Omega.{arith}
-use lib.ListN.{length, get_or}
-use Rattle.definitions.specs.Layout.{unsigned}
-use Rattle.fields.proofs.Bytes.{unsigned_none, unsigned_next, unsigned_fits}
-use Prim.Native.Nat.{◌+◌, ◌<◌}
-use lib.ListN.{length}
+use Rattle.std.proofs.Common.{◌≡◌, ◌+◌, ◌*◌, ◌<◌, ◌^◌, length, get_or, sym, ap, ◌∙◌, arith}
+use Rattle.std.proofs.Math.Seq.{take-length}
+use Rattle.definitions.specs.Layout.{unsigned, big_endian}
+use Rattle.fields.proofs.Bytes.{unsigned_none, unsigned_front, unsigned_fits}
 use Rattle.fields.proofs.number.Goals as goal
-use Rattle.fields.proofs.number.Goals.{After-shared_slice_known-1}
+use Rattle.fields.proofs.number.Goals.{In-loop-byte}
 
-pub loop-i-init : goal.loop-i-init
-loop-i-init c = (sym (unsigned_none c.args.at c.args.s.now), omega arith)
-
-pub overflow_cast-byte : goal.overflow_cast-byte
-overflow_cast-byte c = omega (arith, c.shared_slice_known-1.given (c.args.at + c.loop-i.i))
+pub loop-byte-init : goal.loop-byte-init
+loop-byte-init c = sym (unsigned_none 0 c.args.bytes.now)
 
 -- the value with the next byte
-module _ (c : After-shared_slice_known-1) where
-  open c.args use {s, at}
-  open c.loop-i use {value, i}
+module _ (c : In-loop-byte) where
+  open c.args.bytes use {now as bytes}
+  open c.loop-byte use {value, byte-index as n}
 
-  next : value * 256 + get_or s.now (at + i) 0 ≡ unsigned (i + 1) at s.now
-  next =
-      let inside : at + i < length s.now = omega arith in
-      ap (λ v. v * 256 + get_or s.now (at + i) 0) c.loop-i.invariant.0 ∙ sym (unsigned_next i at s.now inside)
+  next : value * 256 + get_or bytes n 0 ≡ unsigned (n + 1) 0 bytes
+  next = ap (λ v. v * 256 + get_or bytes n 0) c.loop-byte.invariant ∙ sym (unsigned_front n bytes c.loop-byte-test.true)
 
-  next_fits : value * 256 + get_or s.now (at + i) 0 < 2 ^ 64
-  next_fits = rw next (unsigned_fits s.now (λ k. (c.shared_slice_known-1.given k).fits) at (i + 1) (omega arith) (omega arith))
+  next_fits : value * 256 + get_or bytes n 0 < 2 ^ 64
+  next_fits = rw next (unsigned_fits bytes (λ k. (c.type_inv.bytes k).fits) 0 (n + 1) (omega (arith, c.loop-byte-test.true)) (omega (arith, c.loop-byte-test.true)))
 
 pub overflow_mul-value : goal.overflow_mul-value
 overflow_mul-value c = omega (arith, next_fits c)
 
 pub overflow_add-value : goal.overflow_add-value
-overflow_add-value c = omega (arith, next_fits c)
+overflow_add-value c = omega (arith, next_fits (goal.at.overflow_add-value c).In-loop-byte, c.from.ensures)
 
-pub loop-i-preserved : goal.loop-i-preserved
-loop-i-preserved c = (next c, omega arith)
+pub loop-byte-preserved : goal.loop-byte-preserved
+loop-byte-preserved c = ap (λ b. c.loop-byte.value * 256 + b) c.from.ensures ∙ next (goal.at.loop-byte-preserved c).In-loop-byte
 
 pub returns : goal.returns
+unfolding unsigned
 returns c =
-    let l = c.loop-i in
-    let all : l.i ≡ c.args.width = omega arith in
-    l.invariant.0 ∙ ap (λ n. unsigned n c.args.at c.args.s.now) all
+    let bytes = c.args.bytes.now in
+    let all : c.loop-byte.byte-index ≡ length bytes = omega (arith, c.loop-byte.auto.byte-index-end, c.loop-byte-test.false) in
+    c.loop-byte.invariant ∙ ap (λ n. unsigned n 0 bytes) all ∙ ap (big_endian 0) (take-length bytes)

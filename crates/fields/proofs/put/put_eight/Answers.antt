@@ -1,13 +1,14 @@
--- `fields::put::put_eight` meets its contract: the higher four bytes, and the lower four behind them. Assumes nothing.
-use mathlib.Core.Path.{refl}
-use native.Mathlib.Omega.{arith}
-use Rattle.fields.specs.Put.{eight_put}
+use Rattle.std.proofs.Common.{◌+◌, ◌-◌, refl, ◌∙◌, arith}
+use Rattle.std.proofs.lemmas.Slice.{put_mid-paste}
+use Rattle.definitions.specs.Layout.{bytes_of}
+use Rattle.fields.proofs.BigEndian.{eight_bytes}
 use Rattle.fields.proofs.put.put_eight.Goals as goal
 
 pub returns : goal.returns
+unfolding bytes_of
 returns c =
-    let lower = c.before.before in
-    let higher = lower.before.before.before.before in
-    let start = higher.before.before.before in
-    eight_put start.args.buf.now start.args.v start.args.at (omega (arith, start.requires)) refl (omega arith)
-    higher.put_four.ensures lower.put_four-2.ensures
+    let a = c.args in
+    record {
+      is = put_mid-paste a.at (a.at + 8 - a.at) a.buf.now c.copy_from_slice.new.self (bytes_of 8 a.v) 8
+          (c.copy_from_slice.ensures.after ∙ c.to_be_bytes.ensures ∙ eight_bytes a.v) (omega arith) refl;
+    }

@@ -1,17 +1,14 @@
--- `fields::put::put_four` meets its contract: four stores in a row. Assumes nothing.
-use native.Mathlib.Omega.{arith}
-use lib.ListN.{length-set}
-use Rattle.fields.specs.Put.{four_put}
+use Rattle.std.proofs.Common.{◌+◌, ◌-◌, refl, ◌∙◌, arith}
+use Rattle.std.proofs.lemmas.Slice.{put_mid-paste}
+use Rattle.definitions.specs.Layout.{bytes_of}
+use Rattle.fields.proofs.BigEndian.{four_bytes}
 use Rattle.fields.proofs.put.put_four.Goals as goal
 
-pub bounds-buf-at-2 : goal.bounds-buf-at-2
-bounds-buf-at-2 c = simp length-set (omega arith)
-
-pub bounds-buf-at-3 : goal.bounds-buf-at-3
-bounds-buf-at-3 c = simp length-set (omega arith)
-
-pub bounds-buf-at-4 : goal.bounds-buf-at-4
-bounds-buf-at-4 c = simp length-set (omega arith)
-
 pub returns : goal.returns
-returns c = four_put c.args.buf.now c.args.v c.args.at (omega arith) (omega arith) (omega arith) (omega arith)
+unfolding bytes_of
+returns c =
+    let a = c.args in
+    record {
+      is = put_mid-paste a.at (a.at + 4 - a.at) a.buf.now c.copy_from_slice.new.self (bytes_of 4 a.v) 4
+          (c.copy_from_slice.ensures.after ∙ c.to_be_bytes.ensures ∙ four_bytes a.v) (omega arith) refl;
+    }
