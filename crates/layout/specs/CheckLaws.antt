@@ -1,5 +1,5 @@
 -- Laws of the definitions' checks: of one condition, of a field's limits, of one check and then the next, and of the fields of a number.
-use Rattle.std.specs.Prelude.{ℕ, zero, suc, ◌+◌, ◌-◌, ◌≤◌, ◌<◌, ◌≡◌, refl, Bool, true, false, ◌&&◌, ◌||◌, length, leb, eqb}
+use Rattle.std.specs.Prelude.{ℕ, suc, ◌+◌, ◌-◌, ◌≤◌, ◌<◌, ◌≡◌, refl, Bool, true, false, not, ◌&&◌, ◌||◌, length, leb, eqb}
 use Rattle.std.proofs.Math.Path.{sym, ap, ap₂, fun_ext}
 use Rattle.std.proofs.Common.{◌∙◌, le-leb, leb-true, eqb-true}
 use Rattle.std.proofs.Math.Nat.{sub-zero}
@@ -10,11 +10,11 @@ use Rattle.definitions.specs.Words.{within}
 use Rattle.definitions.specs.Layout.{Bytes, unsigned, signed, length_word, version, last_year, parts, part_at, file_length, record_length}
 use Rattle.definitions.specs.Refusals as refusals
 use Rattle.definitions.specs.Refusals.{clear, refuses, unless, ◌then◌, fields, good_part, check1, check2, check3, check4, file_check, row_check, record_check}
-use Rattle.layout.specs.declared.checks.Check.{Check}
-use Rattle.layout.specs.declared.checks.Check.TheVariants.{Clear, Refuses}
+use Rattle.layout.specs.declared.refusals.Refusal.{Refusal}
+use Rattle.layout.specs.Refusals.{number_of}
 use Rattle.layout.specs.declared.checks.Limits.{Limits}
 use Rattle.layout.specs.declared.checks.Run.{Run}
-use Rattle.layout.specs.Checks.{told, place_in, allowed, unsigned_run, signed_run, length_check, record_head, Whole}
+use Rattle.layout.specs.Checks.{place_in, allowed, unsigned_run, signed_run, length_check, record_head, Whole}
 
 -- ---- one condition
 
@@ -41,6 +41,15 @@ unless_clear false number place e = cc
 pub and_true : (a b : Bool) → a && b ≡ true → (a ≡ true) × (b ≡ true)
 and_true true b e = (refl, e)
 and_true false b e = (cc, cc)
+
+-- of a test for being other than a value
+pub not_true : (b : Bool) → not b ≡ true → b ≡ false
+not_true true e = cc
+not_true false e = refl
+
+pub not_false : (b : Bool) → not b ≡ false → b ≡ true
+not_false true e = refl
+not_false false e = cc
 
 -- a value v that was read, and so is u
 pub within_yes : {low high v u : ℕ} → v ≡ u → low ≤ v → v ≤ high → within low high u ≡ true
@@ -79,14 +88,10 @@ module _ (limits : Limits) {v : ℕ} where
 
 -- ---- one check, then the next
 
--- a check that was clear is passed over
-pub passed : {c : Check} {x : refusals.Check} → told c ≡ x → c ≡ Clear → x ≡ clear
-passed e k = sym e ∙ ap told k
-
--- one that refused is the answer
-pub stopped : {c : Check} {x : refusals.Check} {number place : ℕ} (y : refusals.Check) → told c ≡ x → c ≡ Refuses number place
-    → told c ≡ x then y
-stopped y e k = ap told k ∙ ap (λ z. z then y) (sym (ap told k) ∙ e)
+-- a refusal is the answer, whatever stands behind
+pub stopped : (refusal : Refusal) {x : refusals.Check} (y : refusals.Check)
+    → refusals.refuses (number_of refusal.reason) refusal.place ≡ x → refusals.refuses (number_of refusal.reason) refusal.place ≡ x then y
+stopped refusal y e = ap (λ z. z then y) e
 
 -- both were clear
 pub then_clear : (x y : refusals.Check) → x then y ≡ clear → (x ≡ clear) × (y ≡ clear)

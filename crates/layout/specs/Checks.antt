@@ -1,18 +1,13 @@
--- The code's answer to a check in the words of the definitions, and the checks that the code runs together.
-use Rattle.std.specs.Prelude.{ℕ, ◌+◌, ◌*◌, ◌≤◌, ◌<◌, ◌≡◌, Bool, ◌&&◌, ◌||◌, length, leb, eqb}
+-- The checks that the code runs together, and what a run of fields is refused for.
+use Rattle.std.specs.Prelude.{ℕ, ◌+◌, ◌*◌, ◌≤◌, ◌<◌, ◌≡◌, Bool, ◌&&◌, ◌||◌, length, leb, eqb, true, false, ℤ, Result, Ok, Err}
 use Rattle.definitions.specs.Words.{within}
 use Rattle.definitions.specs.Layout.{Bytes, unsigned, signed, length_word, version, last_year, file_length, record_length}
 use Rattle.definitions.specs.Refusals as refusals
 use Rattle.definitions.specs.Refusals.{unless, ◌then◌, fields, good_part, check2, check3, check4, check5, check6, check7, check8, check9, check10}
-use Rattle.layout.specs.declared.checks.Check.{Check}
-use Rattle.layout.specs.declared.checks.Check.TheVariants.{Clear, Refuses}
+use Rattle.layout.specs.declared.refusals.Reason.{Reason}
+use Rattle.layout.specs.declared.refusals.Refusal.{Refusal}
 use Rattle.layout.specs.declared.checks.Limits.{Limits}
 use Rattle.layout.specs.declared.checks.Run.{Run}
-
--- number and place of every answer
-abbrev pub told : Check → refusals.Check
-told Clear = refusals.clear
-told (Refuses number place) = refusals.refuses number place
 
 -- at least so many bytes, and as many as the length word says: check 1 of a file (10) and of a mean record (5)
 abbrev pub length_check : ℕ → Bytes → refusals.Check
@@ -40,6 +35,11 @@ unsigned_run s number run limits = fields (λ k. allowed limits (unsigned 8 (pla
 
 unfoldable pub signed_run : Bytes → ℕ → Run → refusals.Check
 signed_run s number run = fields (λ k. good_part (signed (place_in run k) s)) number (place_in run) 0 run.count
+
+-- what is read of a part at a place: it is inside the limits, or refused there for the reason given
+abbrev pub PartRead : Bytes → ℕ → Reason → Result ℤ Refusal → Type 0
+PartRead s at reason (Ok z) = (z ≡ signed at s) × (good_part (signed at s) ≡ true)
+PartRead s at reason (Err r) = (r ≡ record { reason = reason; place = at }) × (good_part (signed at s) ≡ false)
 
 -- ---- the checks that run together
 

@@ -1,5 +1,6 @@
-// The file and the mean record as an insurer sends them: where their fields stand, and which of them are refused.
+// The file and the mean record as an insurer sends them: where their fields stand, which of them are refused, and why.
 #![tactic(auto)]
 
 pub mod checks;
 pub mod places;
+pub mod refusals;

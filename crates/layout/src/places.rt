@@ -2,16 +2,13 @@
 ghost use Rattle.std.specs.Prelude.{◌≡◌};
 ghost use Rattle.definitions.specs.Layout.{last_year, parts, cells, amount_at, file_length, record_length};
 
-use fields::{ByteField, unsigned_1};
+use fields::unsigned_1;
 
 // J; of a string that ends before it, 0.
 pub fn last_year(s: &[u8]) -> u8
     ensures { result ≡ last_year s.now }
 {
-    let ByteField::Value(last) = unsigned_1(s, 5) else {
-        return 0;
-    };
-    last
+    unsigned_1(s, 5).unwrap_or(0)
 }
 
 // Parts of a mean, and variances, and priors.

@@ -69,12 +69,13 @@ returns-then-paid-incurred c =
     let d = (goal.at.returns-then-paid-incurred c).After-cells_of in
     let s = file d in
     let J = last_year s in
-    let paid-read = field_read 8 (paid_found d) s c.unsigned_8.ensures c.in-Value.is ∙ ap (λ at. unsigned 8 at s) (paid-place d) in
+    let paid-read = field_read 8 (paid_found d) s c.unsigned_8.ensures c.in-Some.is ∙ ap (λ at. unsigned 8 at s) (paid-place d) in
     let incurred-read =
-    field_read 8 (incurred_found d) s c.unsigned_8-2.ensures c.in-Value-unsigned_8.is ∙ ap (λ at. unsigned 8 at s) (incurred-place d) in
-    ap (refuses 10) (paid-place d)
+    field_read 8 (incurred_found d) s c.unsigned_8-2.ensures c.in-Some-unsigned_8.is ∙ ap (λ at. unsigned 8 at s) (incurred-place d) in
+    rw c.at-then-paid-incurred.ensures
+    (ap (refuses 10) (paid-place d)
     ∙ unless_fails 10 (paid_at J 0 J)
-    (ne_eqb (paid s 0 J) (incurred s 0 J) (λ h. c.if-paid-incurred.true (paid-read ∙ h ∙ sym incurred-read)))
+    (ne_eqb (paid s 0 J) (incurred s 0 J) (λ h. c.if-paid-incurred.true (paid-read ∙ h ∙ sym incurred-read))))
 
 pub returns : goal.returns
 unfolding check10
@@ -82,7 +83,7 @@ returns c =
     let d = (goal.at.returns c).After-cells_of in
     let s = file d in
     let J = last_year s in
-    let paid-read = field_read 8 (paid_found d) s c.unsigned_8.ensures c.in-Value.is ∙ ap (λ at. unsigned 8 at s) (paid-place d) in
+    let paid-read = field_read 8 (paid_found d) s c.unsigned_8.ensures c.in-Some.is ∙ ap (λ at. unsigned 8 at s) (paid-place d) in
     let incurred-read =
-    field_read 8 (incurred_found d) s c.unsigned_8-2.ensures c.in-Value-unsigned_8.is ∙ ap (λ at. unsigned 8 at s) (incurred-place d) in
+    field_read 8 (incurred_found d) s c.unsigned_8-2.ensures c.in-Some-unsigned_8.is ∙ ap (λ at. unsigned 8 at s) (incurred-place d) in
     unless_holds 10 (paid_at J 0 J) (eq-eqb (paid s 0 J) (incurred s 0 J) (sym paid-read ∙ c.if-paid-incurred.false ∙ incurred-read))

@@ -12,7 +12,7 @@ unfolding check4
 returns-then-s-file_length c =
     let s = c.args.s.now in
     let e = c.file_length.ensures ∙ ap file_length c.last_year.ensures in
-    unless_fails 4 0 (ne_eqb (length s) (file_length (last_year s)) (λ h. c.if-s-file_length.true (h ∙ sym e)))
+    rw c.at.ensures (unless_fails 4 0 (ne_eqb (length s) (file_length (last_year s)) (λ h. c.if-s-file_length.true (h ∙ sym e))))
 
 pub returns : goal.returns
 unfolding check4

@@ -14,19 +14,19 @@ pub returns-then-closeness-lt1 : goal.returns-then-closeness-lt1
 unfolding check5
 returns-then-closeness-lt1 c =
     let s = c.args.s.now in
-    let e = field_read 4 6 s c.unsigned_4.ensures c.in-Value.is in
-    unless_fails 5 6 (within_low 65536 e c.if-closeness-lt1.true)
+    let e = field_read 4 6 s c.unsigned_4.ensures c.in-Some.is in
+    rw c.at-then-closeness-lt1.ensures (unless_fails 5 6 (within_low 65536 e c.if-closeness-lt1.true))
 
 pub returns-then-closeness-gt65536 : goal.returns-then-closeness-gt65536
 unfolding check5
 returns-then-closeness-gt65536 c =
     let s = c.args.s.now in
-    let e = field_read 4 6 s c.unsigned_4.ensures c.in-Value.is in
-    unless_fails 5 6 (within_high 1 e c.if-closeness-gt65536.true)
+    let e = field_read 4 6 s c.unsigned_4.ensures c.in-Some.is in
+    rw c.at-then-closeness-gt65536.ensures (unless_fails 5 6 (within_high 1 e c.if-closeness-gt65536.true))
 
 pub returns : goal.returns
 unfolding check5
 returns c =
     let s = c.args.s.now in
-    let e = field_read 4 6 s c.unsigned_4.ensures c.in-Value.is in
+    let e = field_read 4 6 s c.unsigned_4.ensures c.in-Some.is in
     unless_holds 5 6 (within_yes e c.if-closeness-lt1.false c.if-closeness-gt65536.false)

@@ -13,4 +13,4 @@ returns c =
     let s = c.args.s.now in
     let all = c.parts_of-count.ensures ∙ ap parts c.last_year.ensures in
     let places : (k : ℕ) → 10 + 8 * c.parts_of-count.result + 12 * k ≡ prior_mean_at (last_year s) k = λ k. omega arith in
-    c.check_signed.ensures ∙ signed_run_lem s 8 _ places all
+    c.check_parts.ensures ∙ signed_run_lem s 8 _ places all
