@@ -15,7 +15,7 @@ ghost use Rattle.definitions.specs.Layout.{
 };
 ghost use Rattle.layout.specs.Checks.{Whole};
 
-use fields::{Field, SignedField, signed_4, unsigned_4, unsigned_8};
+use fields::{signed_4, unsigned_4, unsigned_8};
 use layout::places::{amounts_at, last_year, parts_of};
 use scales::{Amount, Ticks, Variance};
 
@@ -25,10 +25,7 @@ pub fn closeness_of(s: &[u8]) -> u64
     requires { Whole s.now }
     ensures { result ≡ closeness s.now }
 {
-    let Field::Value(e) = unsigned_4(s, 6) else {
-        return 0;
-    };
-    e
+    unsigned_4(s, 6).unwrap()
 }
 
 // An 8-byte field that ends inside the file.
@@ -36,10 +33,7 @@ fn eight(s: &[u8], at: usize) -> u64
     requires { at + 8 ≤ length s.now }
     ensures { result ≡ unsigned 8 at s.now }
 {
-    let Field::Value(v) = unsigned_8(s, at) else {
-        return 0;
-    };
-    v
+    unsigned_8(s, at).unwrap()
 }
 
 // σ² of Φ_0..Φ_J, then τ² of Ψ_0..Ψ_(J−1).
@@ -55,10 +49,7 @@ pub fn prior_mean(s: &[u8], k: usize) -> Ticks
     ensures { result.0 ≡ prior_mean s.now k }
 {
     let at = 10 + 8 * parts_of(last_year(s)) + 12 * k;
-    let SignedField::Value(mean) = signed_4(s, at) else {
-        return Ticks(0);
-    };
-    Ticks(mean)
+    Ticks(signed_4(s, at).unwrap())
 }
 
 pub fn prior_variance(s: &[u8], k: usize) -> Variance

@@ -3,13 +3,13 @@ ghost use Rattle.std.specs.Prelude.{◌≡◌, ◌-◌, ◌≤◌, cond, length,
 ghost use Rattle.definitions.specs.Layout.{row_bytes};
 ghost use Rattle.definitions.specs.Refusals.{row_check};
 ghost use Rattle.definitions.specs.Machine.{row_part};
-ghost use Rattle.layout.specs.Checks.{told};
+ghost use Rattle.layout.specs.Refusals.{told};
 ghost use Rattle.layout.specs.CheckLaws.{Shown};
 ghost use Rattle.readings.specs.Rows.{Places};
 
-use layout::checks::Check;
 use layout::checks::file::check_file;
 use layout::places::{amounts_at, cells_of, last_year};
+use layout::refusals::{Reason, Refusal};
 use row_starts::row_start;
 
 // The bytes start..end of the paid block, or of the incurred block.
@@ -30,21 +30,19 @@ fn part<'a>(
     }
 }
 
-// Whether the row is shown, or else number and place.
-pub fn row_told(s: &[u8], channel: usize, year: usize) -> Check
+// Whether the row is shown, or else why not and where.
+#[tactic(auto, unfolding(definitions::specs::Refusals::row_check))]
+pub fn row_told(s: &[u8], channel: usize, year: usize) -> Result<(), Refusal>
     ensures { told result ≡ row_check s.now channel year }
 {
-    let file = check_file(s);
-    let Check::Clear = file else {
-        return file;
-    };
+    check_file(s)?;
     if 1 < channel {
-        return Check::Refuses(14, 0);
+        return Err(Reason::Channel.at(0));
     }
     if (last_year(s) as usize) < year {
-        return Check::Refuses(15, 0);
+        return Err(Reason::Row.at(0));
     }
-    Check::Clear
+    Ok(())
 }
 
 // A row that is not refused.
@@ -64,14 +62,14 @@ fn shown_row(s: &[u8], channel: usize, year: usize) -> &[u8]
 pub fn row(s: &[u8], channel: usize, year: usize) -> &[u8]
     ensures { result.now ≡ row_part s.now channel year }
 {
-    let Check::Clear = row_told(s, channel, year) else {
+    if row_told(s, channel, year).is_err() {
         return &s[..0];
-    };
+    }
     shown_row(s, channel, year)
 }
 
 // Where a row stands in the file.
-#[derive(Drop)]
+#[derive(Clone, Copy)]
 pub struct RowPlace {
     pub start: usize,
     pub length: usize,

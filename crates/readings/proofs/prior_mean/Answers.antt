@@ -1,36 +1,27 @@
--- `readings::prior_mean` meets its contract: the place is the definition's, and the reading does not end. Assumes nothing.
-use native.Mathlib.Omega.{arith}
-use mathlib.Core.Path.{◌≡◌, ap, ◌∙◌}
-use Prim.Native.Nat.{◌+◌, ◌*◌}
-use mir.Facts.{to_z-of_z}
+-- The place is the definition's.
+use Rattle.std.proofs.Common.{◌≡◌, ◌+◌, ◌*◌, ap, ◌∙◌, arith, refl}
+use Rattle.std.proofs.Math.Facts.{to_z-of_z}
 use mir.Syntax.{w64}
 use Rattle.definitions.specs.Layout.{signed, last_year, prior_mean_at}
-use Rattle.fields.specs.Fields.{signed_read, signed_outside}
+use Rattle.fields.specs.Fields.{signed_read, signed_value}
 use Rattle.layout.specs.Places.{prior_inside}
 use Rattle.readings.proofs.prior_mean.Goals as goal
 use Rattle.readings.proofs.prior_mean.Goals.{After-parts_of}
 
-place : (c : After-parts_of)
-    → let a = c.args in
-    10 + 8 * c.parts_of.result + 12 * a.k ≡ prior_mean_at (last_year a.s.now) a.k
+place : (c : After-parts_of) → let a = c.args in 10 + 8 * c.parts_of.result + 12 * a.k ≡ prior_mean_at (last_year a.s.now) a.k
 place c = omega arith
 
-pub returns-in_default : goal.returns-in_default
-returns-in_default c =
+pub unwrap-requires : goal.unwrap-requires
+unwrap-requires c =
     let a = c.args in
-    let s = a.s.now in
-    absurd
-    (omega (
-      arith,
-      place (goal.at.returns-in_default c).After-parts_of,
-      prior_inside s c.requires.0 a.k c.requires.1,
-      signed_outside (10 + 8 * c.parts_of.result + 12 * a.k) s c.signed_4.ensures c.in_default.is,
-    ))
+    let inside = prior_inside a.s.now c.requires.0 a.k c.requires.1 in
+    rw (c.signed_4.ensures
+    ∙ signed_value (10 + 8 * c.parts_of.result + 12 * a.k) a.s.now (omega (arith, place (goal.at.unwrap-requires c).After-parts_of, inside))) refl
 
 pub returns : goal.returns
 returns c =
     let a = c.args in
     let s = a.s.now in
-    to_z-of_z {w = w64} {z = c.in-Value.mean} (record { sfits = c.in-Value.known_told-1-own.given.0.1 })
-    ∙ signed_read (10 + 8 * c.parts_of.result + 12 * a.k) s c.signed_4.ensures c.in-Value.is
+    to_z-of_z {w = w64} {z = c.unwrap.result} (record { sfits = c.unwrap.type_inv })
+    ∙ signed_read (10 + 8 * c.parts_of.result + 12 * a.k) s c.signed_4.ensures c.unwrap.ensures
     ∙ ap (λ at. signed at s) (place (goal.at.returns c).After-parts_of)
