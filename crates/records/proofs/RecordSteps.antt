@@ -1,22 +1,18 @@
 -- One turn of the loops over a record's parts: the mean that is read so far, and the buffer that is written so far.
-use mathlib.Core.Path.{◌≡◌, refl, sym, ap, ap₂, ◌∙◌}
-use mathlib.Core.Bool.{true, false}
+use mathlib.Core.Path.{◌≡◌, sym, ap, ap₂, ◌∙◌}
 use mathlib.Core.List.{List, [], ◌∷◌, ◌++◌, append_assoc, append-nil}
-use Prim.Native.Nat.{ℕ, suc, ◌+◌, ◌*◌, ◌-◌, ◌/◌, ◌%◌, ◌≤◌, ◌<◌, ◌^◌}
+use Prim.Native.Nat.{ℕ, suc, ◌+◌, ◌*◌, ◌-◌, ◌≤◌, ◌<◌}
 use native.Mathlib.Nat.{zero-add}
-use native.Mathlib.Numerals.{add-one, add-two, add-three}
+use native.Mathlib.Numerals.{add-one}
 use native.Mathlib.Omega.{arith}
-use borrow.Author.Tests.{ltb-true}
-use lib.IntN.{ℤ, pos, negsuc, nat_abs, ◌+ℤ◌}
+use lib.IntN.{ℤ, pos}
 use lib.ListN.{length, take, drop, set, replicate, length-append, take-append-drop, get_or}
-use lib.Seq.{set_at, sets-eq, take_at, drop-append-add, drop-drop, drop-cons, length-take-le}
-use lib.Signed.{lt_z}
-use Rattle.integers.specs.Linear.{linear}
+use lib.Seq.{set_at, take_at, drop-append-add, drop-drop, drop-cons, length-take-le}
 use Rattle.definitions.specs.Words.{tab_from, part}
 use Rattle.definitions.specs.Layout.{Bytes, parts, record_length, bytes_of, four_bytes, part_bytes, record_of}
-use Rattle.definitions.specs.Refusals.{part_limit}
+use Rattle.laws.specs.NumberBytes.{Put}
 use Rattle.laws.proofs.Tables.{tab_from_length, tab_from_snoc}
-use Rattle.records.specs.Records.{FourPut, with_parts, bytes_length, part_bytes_length, part_bytes_snoc}
+use Rattle.records.specs.Records.{with_parts, bytes_length, part_bytes_length, part_bytes_snoc}
 
 -- ---- reading: part k in place of the first zero
 
@@ -29,28 +25,6 @@ read_next f size k h =
     ∙ sym (append_assoc (tab_from 0 k f) (f k ∷ []) (replicate (size - (k + 1)) (pos 0)))
     ∙ ap (λ l. l ++ replicate (size - (k + 1)) (pos 0))
     (ap (λ j. tab_from 0 k f ++ f j ∷ []) (sym (zero-add k)) ∙ sym (tab_from_snoc 0 k f) ∙ ap (λ n. tab_from 0 n f) (sym (add-one k)))
-
--- ---- a negative part as a number of four bytes
-
-pub four_negative : (z : ℤ) → nat_abs z ≤ part_limit → lt_z z (pos 0) ≡ true → z +ℤ pos (2 ^ 32) ≡ pos (four_bytes z)
-unfolding four_bytes
-four_negative (pos n) h e = absurd (omega (arith, ltb-true n 0 e))
-four_negative (negsuc n) h e = simp linear (omega arith)
-
-pub four_positive : (z : ℤ) → lt_z z (pos 0) ≡ false → z ≡ pos (four_bytes z)
-unfolding four_bytes
-four_positive (pos n) e = refl
-four_positive (negsuc n) e = cc
-
--- ---- writing: four bytes, from the place `at` on
-
-pub four_put : (b : Bytes) (v at : ℕ) {i j k : ℕ} → i ≡ at + 1 → j ≡ at + 2 → k ≡ at + 3 → at + 4 ≤ length b
-    → FourPut b at v (set (set (set (set b at (v / 256 / 256 / 256 % 256)) i (v / 256 / 256 % 256)) j (v / 256 % 256)) k (v % 256))
-unfolding bytes_of
-four_put b v at {i} {j} {k} second third fourth room = record {
-  is = rw (second ∙ add-one at, third ∙ add-two at, fourth ∙ add-three at)
-      (sets-eq (v / 256 / 256 / 256 % 256 ∷ v / 256 / 256 % 256 ∷ v / 256 % 256 ∷ v % 256 ∷ []) b at room);
-}
 
 -- ---- the bytes of part k behind those of the parts before it
 
@@ -69,7 +43,7 @@ module _ (b : Bytes) (μ : List ℤ) where
   written_length k h = length-append (take 5 b) (part_bytes 0 k μ) ∙ ap₂ ◌+◌ (length-take-le 5 b h) (part_bytes_length μ 0 k)
 
   -- part k is written: v at the place p of the buffer c, which then is d
-  pub put_next : (k : ℕ) {c d : Bytes} {p v : ℕ} → c ≡ put k → FourPut c p v d
+  pub put_next : (k : ℕ) {c d : Bytes} {p v : ℕ} → c ≡ put k → Put 4 c p v d
       → p ≡ 5 + 4 * k → v ≡ four_bytes (part μ k) → 5 + 4 * k + 4 ≤ length b → d ≡ put (k + 1)
   put_next k {c} {d} {p} {v} so_far stored place value room =
       let at = 5 + 4 * k in

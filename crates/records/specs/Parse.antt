@@ -1,14 +1,13 @@
 -- The contract of reading a record: the checks, and the mean of one that they let pass.
-use Rattle.std.specs.Prelude.{ℕ, ◌-◌, ◌≡◌, List, ◌++◌, ℤ, pos, length, replicate, eqb}
-use Rattle.std.proofs.Common.{sym, ap, ◌∙◌, arith, eqb-true}
+use Rattle.std.specs.Prelude.{ℕ, ◌-◌, ◌≡◌, List, ◌++◌, ℤ, pos, length, replicate, eqb, Result, Ok, Err}
+use Rattle.std.proofs.Common.{sym, ap, ◌∙◌, eqb-true}
 use Rattle.definitions.specs.Layout.{Bytes, version, signed, parts, part_at, record_length, mean_of}
 use Rattle.definitions.specs.Refusals as refusals
 use Rattle.definitions.specs.Refusals.{clear, refuses, unless, ◌then◌, fields, good_part, record_check}
-use Rattle.layout.specs.declared.checks.Check.{Check}
-use Rattle.layout.specs.declared.checks.Check.TheVariants.{Refuses}
-use Rattle.layout.specs.Checks.{told, length_check, record_head}
+use Rattle.layout.specs.declared.refusals.Refusal.{Refusal}
+use Rattle.layout.specs.Refusals.{told, number_of}
+use Rattle.layout.specs.Checks.{length_check, record_head}
 use Rattle.layout.specs.CheckLaws.{then_clear, unless_clear, record_checks}
-use Rattle.records.specs.declared.Parsed.{Parsed}
 
 -- a record's mean, zeros behind its parts
 abbrev pub padded : ℕ → Bytes → List ℤ
@@ -18,32 +17,31 @@ padded last r = mean_of last r ++ replicate (31 - parts last) (pos 0)
 abbrev pub parts_check : ℕ → Bytes → refusals.Check
 parts_check last r = fields (λ k. good_part (signed (part_at k) r)) 11 part_at 0 (parts last)
 
-pub record ParsedParts (last : ℕ) (r : Bytes) (p : Parsed) : Type 0 where
-  pub checked : told p.check ≡ parts_check last r
-  pub is : told p.check ≡ clear → p.mean ≡ padded last r
+-- what the checks say of a record, and the mean of one that they let pass
+pub record ParsedParts (last : ℕ) (r : Bytes) (p : Result (List ℤ) Refusal) : Type 0 where
+  pub checked : told p ≡ parts_check last r
+  pub is : (m : List ℤ) → p ≡ Ok m → m ≡ padded last r
 
-pub record ParsedRecord (last : ℕ) (r : Bytes) (p : Parsed) : Type 0 where
-  pub checked : told p.check ≡ record_check last r
-  pub is : told p.check ≡ clear → p.mean ≡ padded last r
-
-refuses_clear : {number place : ℕ} → refuses number place ≡ clear → ⊥
-refuses_clear e = let z : ◌≡◌ {A = ℕ} 0 1 = cc in omega arith
+pub record ParsedRecord (last : ℕ) (r : Bytes) (p : Result (List ℤ) Refusal) : Type 0 where
+  pub checked : told p ≡ record_check last r
+  pub is : (m : List ℤ) → p ≡ Ok m → m ≡ padded last r
 
 -- a part that is refused ends the reading
-pub part_refused : {last number place : ℕ} {r : Bytes} {m : List ℤ} → refuses number place ≡ parts_check last r
-    → ParsedParts last r (record { check = Refuses number place; mean = m })
-part_refused e = record { checked = e; is = λ c. absurd (refuses_clear c) }
+pub part_refused : {last : ℕ} {r : Bytes} (refusal : Refusal) → refuses (number_of refusal.reason) refusal.place ≡ parts_check last r
+    → ParsedParts last r (Err refusal)
+part_refused refusal e = record { checked = e; is = λ m k. cc }
 
 -- so does a head that is refused
-pub head_refused : {last number place : ℕ} {r : Bytes} {c : Check} {m : List ℤ} → c ≡ Refuses number place → told c ≡ record_head last r
-    → ParsedRecord last r (record { check = c; mean = m })
-head_refused {last} {r = r} is h = record {
-  checked = ap told is ∙ ap (λ x. x then parts_check last r) (sym (ap told is) ∙ h) ∙ sym (record_checks last r);
-  is = λ e. absurd (refuses_clear (sym (ap told is) ∙ e));
+pub head_refused : {last : ℕ} {r : Bytes} (refusal : Refusal) → refuses (number_of refusal.reason) refusal.place ≡ record_head last r
+    → ParsedRecord last r (Err refusal)
+head_refused {last} {r} refusal h = record {
+  checked = ap (λ x. x then parts_check last r) h ∙ sym (record_checks last r);
+  is = λ m k. cc;
 }
 
 -- and behind a head that is not, the parts decide
-pub head_clear : {last : ℕ} {r : Bytes} {p : Parsed} → record_head last r ≡ clear → ParsedParts last r p → ParsedRecord last r p
+pub head_clear : {last : ℕ} {r : Bytes} {p : Result (List ℤ) Refusal} → record_head last r ≡ clear → ParsedParts last r p
+    → ParsedRecord last r p
 head_clear {last} {r} h parsed = record {
   checked = parsed.checked ∙ ap (λ x. x then parts_check last r) (sym h) ∙ sym (record_checks last r);
   is = parsed.is;

@@ -23,10 +23,6 @@ InLimits n μ = (k : ℕ) → k < n → nat_abs (part μ k) ≤ part_limit
 abbrev pub Writes : ℕ → List ℤ → Bytes → Type 0
 Writes last μ b = (last ≤ 15) × (record_length last ≤ length b) × InLimits (parts last) μ
 
--- four bytes of the number v at the place `at` of a buffer b, in place of those that were there
-pub record FourPut (b : Bytes) (at v : ℕ) (r : Bytes) : Type 0 where
-  pub is : r ≡ take at b ++ bytes_of 4 v ++ drop (at + 4) b
-
 -- a buffer with k parts behind its first five bytes; the bytes behind them are as they were
 abbrev pub with_parts : Bytes → List ℤ → ℕ → Bytes
 with_parts b μ k = take 5 b ++ part_bytes 0 k μ ++ drop (5 + 4 * k) b

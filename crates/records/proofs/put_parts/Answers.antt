@@ -15,7 +15,7 @@ use Rattle.records.proofs.put_parts.Goals as goal
 use Rattle.records.proofs.put_parts.Goals.{In-loop-k}
 
 pub loop-k-init : goal.loop-k-init
-loop-k-init c = let a = c.args in (put_none a.buf.now a.mean.now, refl, omega arith)
+loop-k-init c = let a = c.args in (put_none a.buf.now a.mean.now, refl)
 
 small : (c : In-loop-k) → nat_abs (part c.args.mean.now c.loop-k.k) ≤ 2 ^ 26
 small c = c.requires.2 c.loop-k.k (omega arith)
@@ -37,7 +37,6 @@ loop-k-preserved c =
     let told = c.four_bytes.ensures in (
       put_next a.buf.now a.mean.now l.k l.invariant.0 c.put_four.ensures
           (omega arith) (omega (arith, told, ap four_bytes (held (goal.at.loop-k-preserved c).In-loop-k))) (omega arith),
-      omega arith,
       omega arith,
     )
 
