@@ -7,7 +7,6 @@ ghost use Rattle.chain.specs.Residues.{RowFits, RowsFit};
 ghost use Rattle.holding.specs.Bounds.{PartFits, PartsFit, OfBounds, FrameFits};
 ghost use Rattle.holding.specs.State.{Fits, held_at};
 
-use chain::judge::size;
 use chain::residues::entry_fits;
 
 // A part's own weight, its diagonal entry, its right-hand side and its mean.
@@ -23,10 +22,10 @@ fn part_fits(own: u64, diagonal: i64, right_hand: i64, mean: i64) -> bool
     if 8589934592 < diagonal {
         return false;
     }
-    if 576460752303423488 < size(right_hand) {
+    if 576460752303423488 < right_hand.unsigned_abs() {
         return false;
     }
-    if 67108864 < size(mean) {
+    if 67108864 < mean.unsigned_abs() {
         return false;
     }
     true
@@ -42,12 +41,10 @@ fn parts_fit<'a>(
     requires { OfBounds count }
     ensures { Decides (PartsFit own.now matrix.now right_hand.now mean.now count) result }
 {
-    let mut k = 0usize;
-    while k < count {
+    for k in 0..count {
         if !part_fits(own[k], matrix[31 * k + k], right_hand[k], mean[k]) {
             return false;
         }
-        k += 1;
     }
     true
 }
@@ -87,13 +84,11 @@ fn row_fits(matrix: &[i64; 961], k: usize) -> bool
     ensures { Decides (RowFits matrix.now k) result }
 {
     let row = 31 * k;
-    let mut l = 0usize;
-    while l < k {
+    for l in 0..k {
         let entry = matrix[row + l];
         if !entry_fits(entry) {
             return false;
         }
-        l += 1;
     }
     true
 }
@@ -102,12 +97,10 @@ fn rows_fit(matrix: &[i64; 961], count: usize) -> bool
     requires { OfBounds count }
     ensures { Decides (RowsFit matrix.now count) result }
 {
-    let mut k = 0usize;
-    while k < count {
+    for k in 0..count {
         if !row_fits(matrix, k) {
             return false;
         }
-        k += 1;
     }
     true
 }

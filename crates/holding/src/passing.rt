@@ -5,7 +5,7 @@ ghost use Rattle.holding.specs.Passing.{Passing};
 use crate::bounds::frame_fits;
 use chain::judge::passes;
 use chain::residues::residues;
-use layout::checks::Check;
+use layout::refusals::{Reason, Refusal};
 
 pub fn check_passing<'a>(
     last: usize,
@@ -15,20 +15,19 @@ pub fn check_passing<'a>(
     matrix: &'a [i64; 961],
     right_hand: &'a [i64; 31],
     mean: &'a [i64; 31],
-) -> Check
+) -> Result<(), Refusal>
     ensures { Passing
         (held_at last closeness total own.now matrix.now right_hand.now mean.now)
         result }
 {
     if !frame_fits(last, closeness, total, own, matrix, right_hand, mean) {
-        return Check::Refuses(21, 0);
+        return Err(Reason::NothingOpen.at(0));
     }
-    let tested = residues(last, matrix, right_hand, mean);
-    if !tested.fit {
-        return Check::Refuses(21, 0);
+    let Some(found) = residues(last, matrix, right_hand, mean) else {
+        return Err(Reason::NothingOpen.at(0));
+    };
+    if !passes(last, closeness, own, &found) {
+        return Err(Reason::NotPassed.at(0));
     }
-    if !passes(last, closeness, own, &tested.residues) {
-        return Check::Refuses(24, 0);
-    }
-    Check::Clear
+    Ok(())
 }

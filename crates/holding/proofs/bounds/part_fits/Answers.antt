@@ -44,15 +44,15 @@ returns-then-diagonal-gt8589934592 c =
     subst (λ d. pos diagonal_limit <ℤ d) (diagonal_read (goal.at.returns-then-diagonal-gt8589934592 c).Start) (less c.if-diagonal-gt8589934592.true) in
     decided_no (λ fits. clash_ℤ large fits.diagonal_to)
 
-pub returns-then-size-gt576460752303423488 : goal.returns-then-size-gt576460752303423488
-returns-then-size-gt576460752303423488 c =
-    let size = c.size.ensures ∙ ap nat_abs (right_hand_read (goal.at.returns-then-size-gt576460752303423488 c).Start) in
-    decided_no (λ fits. omega (arith, c.if-size-gt576460752303423488.true, size, fits.right_hand_to))
+pub returns-then-unsigned_abs-gt576460752303423488 : goal.returns-then-unsigned_abs-gt576460752303423488
+returns-then-unsigned_abs-gt576460752303423488 c =
+    let size = c.unsigned_abs.ensures.value ∙ ap nat_abs (right_hand_read (goal.at.returns-then-unsigned_abs-gt576460752303423488 c).Start) in
+    decided_no (λ fits. omega (arith, c.if-unsigned_abs-gt576460752303423488.true, size, fits.right_hand_to))
 
-pub returns-then-size-gt67108864 : goal.returns-then-size-gt67108864
-returns-then-size-gt67108864 c =
-    let size = c.size-2.ensures ∙ ap nat_abs (mean_read (goal.at.returns-then-size-gt67108864 c).Start) in
-    decided_no (λ fits. omega (arith, c.if-size-gt67108864.true, size, fits.mean_to))
+pub returns-then-unsigned_abs-gt67108864 : goal.returns-then-unsigned_abs-gt67108864
+returns-then-unsigned_abs-gt67108864 c =
+    let size = c.unsigned_abs-2.ensures.value ∙ ap nat_abs (mean_read (goal.at.returns-then-unsigned_abs-gt67108864 c).Start) in
+    decided_no (λ fits. omega (arith, c.if-unsigned_abs-gt67108864.true, size, fits.mean_to))
 
 pub returns : goal.returns
 returns c =
@@ -61,6 +61,6 @@ returns c =
       own_to = omega (arith, c.if-own-gt8589934592.false);
       diagonal_from = subst (λ d. pos 1 ≤ℤ d) (diagonal_read start) (not_less c.if-diagonal-lt1.false);
       diagonal_to = subst (λ d. d ≤ℤ pos diagonal_limit) (diagonal_read start) (not_less c.if-diagonal-gt8589934592.false);
-      right_hand_to = omega (arith, c.if-size-gt576460752303423488.false, c.size.ensures ∙ ap nat_abs (right_hand_read start));
-      mean_to = omega (arith, c.if-size-gt67108864.false, c.size-2.ensures ∙ ap nat_abs (mean_read start));
+      right_hand_to = omega (arith, c.if-unsigned_abs-gt576460752303423488.false, c.unsigned_abs.ensures.value ∙ ap nat_abs (right_hand_read start));
+      mean_to = omega (arith, c.if-unsigned_abs-gt67108864.false, c.unsigned_abs-2.ensures.value ∙ ap nat_abs (mean_read start));
     })

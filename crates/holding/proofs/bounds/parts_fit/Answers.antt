@@ -1,4 +1,4 @@
--- `bounds::parts_fit` meets its contract. The loop's invariant: the parts before k fit. The measure is how many are left.
+-- `bounds::parts_fit` meets its contract. The loop's invariant: the parts before k fit.
 use Prim.Native.Nat.{ℕ, ◌+◌, ◌*◌, ◌<◌}
 use mathlib.Core.Path.{sym, ◌∙◌, subst₃}
 use mathlib.Core.List.{List}
@@ -16,7 +16,7 @@ use Rattle.holding.proofs.bounds.parts_fit.Goals as goal
 use Rattle.holding.proofs.bounds.parts_fit.Goals.{After-part_fits, In-loop-k}
 
 pub loop-k-init : goal.loop-k-init
-loop-k-init c = (omega arith, λ j none. absurd (omega arith))
+loop-k-init c = λ j none. absurd (omega arith)
 
 few : (c : In-loop-k) → c.loop-k.k < 31
 few c = omega (arith, c.loop-k-test.true, c.requires.few)
@@ -85,7 +85,7 @@ pub loop-k-preserved : goal.loop-k-preserved
 loop-k-preserved c =
     let after_part_fits = (goal.at.loop-k-preserved c).After-part_fits in
     let y = c.loop-k in
-    (omega (arith, c.loop-k-test.true), here_or_before (FitsAt after_part_fits) y.k ((decided after_part_fits).when_yes c.if-not-part_fits.false) y.invariant.1)
+    here_or_before (FitsAt after_part_fits) y.k ((decided after_part_fits).when_yes c.if-not-part_fits.false) y.invariant
 
 pub returns : goal.returns
-returns c = let y = c.loop-k in decided_yes (λ j below. y.invariant.1 j (omega arith))
+returns c = let y = c.loop-k in decided_yes (λ j below. y.invariant j (omega arith))

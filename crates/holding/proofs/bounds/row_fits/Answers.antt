@@ -18,7 +18,7 @@ pub overflow_mul-row : goal.overflow_mul-row
 overflow_mul-row c = omega (arith, c.requires)
 
 pub loop-l-init : goal.loop-l-init
-loop-l-init c = (omega arith, λ i none. absurd (omega arith))
+loop-l-init c = λ i none. absurd (omega arith)
 
 place : (c : In-loop-l) → 31 * c.args.k + c.loop-l.l < 961
 place c = omega (arith, c.requires, c.loop-l-test.true)
@@ -54,20 +54,12 @@ returns-then-not-entry_fits c =
     let after_entry_fits = (goal.at.returns-then-not-entry_fits c).After-entry_fits in
     decided_no (λ fits. (decided after_entry_fits).when_no c.if-not-entry_fits.true (fits (l after_entry_fits) c.loop-l-test.true))
 
-pub overflow_add-l : goal.overflow_add-l
-overflow_add-l c = omega (arith, place (goal.at.overflow_add-l c).In-loop-l)
-
-pub loop-l-smaller : goal.loop-l-smaller
-loop-l-smaller c = omega (arith, c.loop-l-test.true)
-
 pub loop-l-preserved : goal.loop-l-preserved
 loop-l-preserved c =
     let after_entry_fits = (goal.at.loop-l-preserved c).After-entry_fits in
-    let y = c.loop-l in (
-      omega (arith, c.loop-l-test.true),
-      here_or_before (FitsAt (A after_entry_fits) (k after_entry_fits)) y.l
-          ((decided after_entry_fits).when_yes c.if-not-entry_fits.false) y.invariant.1,
-    )
+    let y = c.loop-l in
+    here_or_before (FitsAt (A after_entry_fits) (k after_entry_fits)) y.l
+          ((decided after_entry_fits).when_yes c.if-not-entry_fits.false) y.invariant
 
 pub returns : goal.returns
-returns c = let y = c.loop-l in decided_yes (λ i below. y.invariant.1 i (omega (arith, c.loop-l-test.false)))
+returns c = let y = c.loop-l in decided_yes (λ i below. y.invariant i (omega (arith, c.loop-l-test.false)))

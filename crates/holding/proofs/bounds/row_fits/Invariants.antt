@@ -10,7 +10,4 @@ abbrev pub FitsAt : List ℤ → ℕ → ℕ → Type 0
 FitsAt A k l = nat_abs (cell A k l) ≤ entry_limit
 
 abbrev pub invariant-loop-l : goal.invariant-loop-l
-invariant-loop-l l = (l.l ≤ l.k) × ((i : ℕ) → i < l.l → FitsAt l.matrix l.k i)
-
-abbrev pub decreases-loop-l : goal.decreases-loop-l
-decreases-loop-l l = l.k - l.l
+invariant-loop-l l = ((i : ℕ) → i < l.l → FitsAt l.matrix l.k i)

@@ -6,7 +6,7 @@ use Rattle.chain.specs.Turned.{here_or_before}
 use Rattle.holding.proofs.bounds.rows_fit.Goals as goal
 
 pub loop-k-init : goal.loop-k-init
-loop-k-init c = (omega arith, λ k none. absurd (omega arith))
+loop-k-init c = λ k none. absurd (omega arith)
 
 pub row_fits-requires : goal.row_fits-requires
 row_fits-requires c = omega (arith, c.loop-k-test.true, c.requires.few)
@@ -15,19 +15,11 @@ pub returns-then-not-row_fits : goal.returns-then-not-row_fits
 returns-then-not-row_fits c =
     decided_no (λ fits. c.row_fits.ensures.when_no c.if-not-row_fits.true (fits c.loop-k.k c.loop-k-test.true))
 
-pub overflow_add-k : goal.overflow_add-k
-overflow_add-k c = omega (arith, c.loop-k-test.true, c.requires.few)
-
-pub loop-k-smaller : goal.loop-k-smaller
-loop-k-smaller c = omega (arith, c.loop-k-test.true)
-
 pub loop-k-preserved : goal.loop-k-preserved
 loop-k-preserved c =
-    let y = c.loop-k in (
-      omega (arith, c.loop-k-test.true),
-      here_or_before (RowFits c.args.matrix.now) y.k
-          (c.row_fits.ensures.when_yes c.if-not-row_fits.false) y.invariant.1,
-    )
+    let y = c.loop-k in
+    here_or_before (RowFits c.args.matrix.now) y.k
+          (c.row_fits.ensures.when_yes c.if-not-row_fits.false) y.invariant
 
 pub returns : goal.returns
-returns c = let y = c.loop-k in decided_yes (λ k below. y.invariant.1 k (omega (arith, c.loop-k-test.false)))
+returns c = let y = c.loop-k in decided_yes (λ k below. y.invariant k (omega (arith, c.loop-k-test.false)))
