@@ -1,12 +1,10 @@
 -- The contracts of the residues: what they ask, and what they give.
-use Rattle.std.specs.Prelude.{ℕ, ◌+◌, ◌≤◌, ◌<◌, ◌≡◌, true, List, ℤ, nat_abs, ◌+ℤ◌, ◌*ℤ◌, length, Option, MatchOption}
+use Rattle.std.specs.Prelude.{ℕ, ◌+◌, ◌≤◌, ◌<◌, ◌≡◌, List, ℤ, nat_abs, ◌+ℤ◌, ◌*ℤ◌, length, Option, MatchOption}
 use Rattle.definitions.specs.Words.{part}
 use Rattle.definitions.specs.Layout.{parts}
 use Rattle.definitions.specs.Refusals.{year_limit}
 use Rattle.definitions.specs.Matrix.{residue}
-use Rattle.chain.specs.declared.residues.TestedResidues.{TestedResidues}
 use Rattle.chain.specs.Arrays.{system, mean_of, cell, row_product}
-use Rattle.chain.specs.Decides.{Decides}
 use Rattle.chain.specs.Fitting.{Inside, entry_limit, diagonal_limit, right_hand_limit, residue_limit}
 use Rattle.chain.specs.Turned.{Turned}
 
@@ -45,6 +43,11 @@ pub record OfMean (last : ℕ) (A b μ : List ℤ) : Type 0 where
 pub record ResiduesOf (last : ℕ) (A b μ r : List ℤ) : Type 0 where
   pub at : (k : ℕ) → k < parts last → part r k ≡ residue (system last A (mean_of last b)) (part (mean_of last μ)) k
 
-pub record TestedOf (last : ℕ) (A b μ : List ℤ) (r : TestedResidues) : Type 0 where
-  pub fit : Decides (RowsFit A (parts last)) r.fit
-  pub are : r.fit ≡ true → ResiduesOf last A b μ r.residues
+-- residues that were found, every row fitting
+pub record FoundOf (last : ℕ) (A b μ r : List ℤ) : Type 0 where
+  pub fit : RowsFit A (parts last)
+  pub are : ResiduesOf last A b μ r
+
+-- found just where every row fits
+abbrev pub TestedOf : ℕ → List ℤ → List ℤ → List ℤ → Option (List ℤ) → Type 0
+TestedOf last A b μ r = MatchOption r (¬ RowsFit A (parts last)) (λ v. FoundOf last A b μ v)

@@ -8,13 +8,6 @@ ghost use Rattle.chain.specs.Residues.{OfRow, RowTimes, OfMean, TestedOf};
 // What an entry off the diagonal may be in size.
 const ENTRY_LIMIT: i64 = 2_147_483_647;
 
-// The residues where every row fits.
-#[derive(Drop)]
-pub struct TestedResidues {
-    pub fit: bool,
-    pub residues: [i64; 31],
-}
-
 // An entry off the diagonal, by its two sides: the compiler makes one test of them.
 pub fn entry_fits(entry: i64) -> bool
     ensures { Decides (nat_abs entry ≤ entry_limit) result }
@@ -47,28 +40,20 @@ fn row_times(
     Some(sum)
 }
 
-// The residues of a mean, part by part; 0 behind the last part.
+// The residues of a mean, part by part, where every row fits; 0 behind the last part.
 pub fn residues<'a>(
     last: usize,
     matrix: &'a [i64; 961],
     right_hand: &'a [i64; 31],
     mean: &'a [i64; 31],
-) -> TestedResidues
+) -> Option<[i64; 31]>
     requires { OfMean last matrix.now right_hand.now mean.now }
     ensures { TestedOf last matrix.now right_hand.now mean.now result }
 {
     let mut found = [0i64; 31];
     for k in 0..2 * last + 1 {
-        let Some(sum) = row_times(matrix, mean, &mut found, k) else {
-            return TestedResidues {
-                fit: false,
-                residues: found,
-            };
-        };
+        let sum = row_times(matrix, mean, &mut found, k)?;
         found[k] = sum + matrix[31 * k + k] * mean[k] - right_hand[k];
     }
-    TestedResidues {
-        fit: true,
-        residues: found,
-    }
+    Some(found)
 }

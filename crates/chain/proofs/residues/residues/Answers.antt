@@ -16,14 +16,13 @@ use Rattle.definitions.specs.Layout.{parts}
 use Rattle.laws.proofs.Filled.{empty_at}
 use Rattle.chain.specs.Arrays.{mean_of, cell, cell_at, cell_mirrored, row_product}
 use Rattle.integers.specs.Bits.{stored, read}
-use Rattle.chain.specs.Decides.{decided_yes}
 use Rattle.chain.specs.Fitting.{Inside, row_limit, residue_limit}
 use Rattle.chain.specs.Residues.{OfMean, RowFits, RowsFit}
 use Rattle.chain.specs.Sizes.{row_fits, sum_fits, difference_fits, mean_at_lem, residue_at_lem}
 use Rattle.chain.specs.Turned.{Turned, turned_none, turned_next, turned_as, here_or_before}
 use Rattle.chain.proofs.residues.residues.Invariants.{so_far_of}
 use Rattle.chain.proofs.residues.residues.Goals as goal
-use Rattle.chain.proofs.residues.residues.Goals.{In-Some}
+use Rattle.chain.proofs.residues.residues.Goals.{In_ok-sum}
 
 -- the first n rows fit
 module _ {last : ℕ} {A b μ : List ℤ} (h : OfMean last A b μ) (n : ℕ) (few : n ≤ parts last) (rows : RowsFit A n) where
@@ -116,26 +115,26 @@ row_times-requires c =
     }
 
 -- a row that fits
-reached : (c : In-Some) → Reached c.args.last c.args.matrix.now c.args.right_hand.now c.args.mean.now c.loop-k.k c.in-Some.sum
+reached : (c : In_ok-sum) → Reached c.args.last c.args.matrix.now c.args.right_hand.now c.args.mean.now c.loop-k.k c.in_ok-sum.sum
 reached c = record {
   asked = c.requires;
   below = c.loop-k-test.true;
-  rows = here_or_before (RowFits c.args.matrix.now) c.loop-k.k c.in-Some.ensures.fits c.loop-k.invariant.0;
-  sums = c.in-Some.ensures.is;
+  rows = here_or_before (RowFits c.args.matrix.now) c.loop-k.k c.in_ok-sum.ensures.fits c.loop-k.invariant.0;
+  sums = c.in_ok-sum.ensures.is;
 }
 
 pub overflow_mul-found-in-loop-k : goal.overflow_mul-found-in-loop-k
-overflow_mul-found-in-loop-k c = let h = reached (goal.at.overflow_mul-found-in-loop-k c).In-Some in fits (product h) (product_small h)
+overflow_mul-found-in-loop-k c = let h = reached (goal.at.overflow_mul-found-in-loop-k c).In_ok-sum in fits (product h) (product_small h)
 
 pub overflow_add-found-in-loop-k : goal.overflow_add-found-in-loop-k
-overflow_add-found-in-loop-k c = let h = reached (goal.at.overflow_add-found-in-loop-k c).In-Some in fits (total h) (total_small h)
+overflow_add-found-in-loop-k c = let h = reached (goal.at.overflow_add-found-in-loop-k c).In_ok-sum in fits (total h) (total_small h)
 
 pub overflow_sub-found : goal.overflow_sub-found
-overflow_sub-found c = let h = reached (goal.at.overflow_sub-found c).In-Some in fits (difference h) (difference_small h)
+overflow_sub-found c = let h = reached (goal.at.overflow_sub-found c).In_ok-sum in fits (difference h) (difference_small h)
 
 pub loop-k-preserved : goal.loop-k-preserved
 loop-k-preserved c =
-    let h = reached (goal.at.loop-k-preserved c).In-Some in (h.rows, next h c.loop-k.invariant.1 c.in-Some.ensures.mirrored)
+    let h = reached (goal.at.loop-k-preserved c).In_ok-sum in (h.rows, next h c.loop-k.invariant.1 c.in_ok-sum.ensures.mirrored)
 
 pub returns : goal.returns
 returns c =
@@ -145,8 +144,8 @@ returns c =
     let μ = c.args.mean.now in
     let all : at.k ≡ parts c.args.last = omega (arith, at.auto.k-end, c.loop-k-test.false) in
     record {
-      fit = decided_yes (λ k below. at.invariant.0 k (omega arith));
-      are = λ _. record {
+      fit = λ k below. at.invariant.0 k (omega arith);
+      are = record {
         at = λ k below. at.invariant.1.front k (omega arith)
             ∙ ap₂ (λ n y. row_product A k n μ -ℤ y) all (sym (mean_at_lem c.args.last b k below))
             ∙ sym (residue_at_lem c.args.last A (mean_of c.args.last b) μ k below);
