@@ -1,5 +1,4 @@
 -- `bounds::parts_fit` meets its contract. The loop's invariant: the parts before k fit.
-use Prim.Native.Nat.{◌-◌, ◌≤◌}
 use Rattle.holding.specs.Bounds.{PartsFit}
 use Rattle.holding.proofs.bounds.parts_fit.Given as goal
 

@@ -59,7 +59,7 @@ loop-l-preserved c =
     let after_entry_fits = (goal.at.loop-l-preserved c).After-entry_fits in
     let y = c.loop-l in
     here_or_before (FitsAt (A after_entry_fits) (k after_entry_fits)) y.l
-          ((decided after_entry_fits).when_yes c.if-not-entry_fits.false) y.invariant
+    ((decided after_entry_fits).when_yes c.if-not-entry_fits.false) y.invariant
 
 pub returns : goal.returns
 returns c = let y = c.loop-l in decided_yes (λ i below. y.invariant i (omega (arith, c.loop-l-test.false)))

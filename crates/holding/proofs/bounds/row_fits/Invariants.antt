@@ -1,5 +1,5 @@
 -- `bounds::row_fits` meets its contract. The loop's invariant: the entries before l fit.
-use Prim.Native.Nat.{ℕ, ◌-◌, ◌≤◌, ◌<◌}
+use Prim.Native.Nat.{ℕ, ◌≤◌, ◌<◌}
 use mathlib.Core.List.{List}
 use lib.IntN.{ℤ, nat_abs}
 use Rattle.chain.specs.Arrays.{cell}

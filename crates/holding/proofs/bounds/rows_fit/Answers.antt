@@ -19,7 +19,7 @@ pub loop-k-preserved : goal.loop-k-preserved
 loop-k-preserved c =
     let y = c.loop-k in
     here_or_before (RowFits c.args.matrix.now) y.k
-          (c.row_fits.ensures.when_yes c.if-not-row_fits.false) y.invariant
+    (c.row_fits.ensures.when_yes c.if-not-row_fits.false) y.invariant
 
 pub returns : goal.returns
 returns c = let y = c.loop-k in decided_yes (λ k below. y.invariant k (omega (arith, c.loop-k-test.false)))

@@ -1,5 +1,4 @@
 -- `bounds::rows_fit` meets its contract. The loop's invariant: the rows before k fit.
-use Prim.Native.Nat.{◌-◌, ◌≤◌}
 use Rattle.chain.specs.Residues.{RowsFit}
 use Rattle.holding.proofs.bounds.rows_fit.Given as goal
 
