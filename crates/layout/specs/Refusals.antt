@@ -1,6 +1,7 @@
--- The specification's number of each reason, and a refusal or none in the words of the definitions.
+-- The specification's number of each reason, and a refusal in the words of the definitions: of a check, of an answer.
 use Rattle.std.specs.Prelude.{ℕ, Result, Ok, Err}
 use Rattle.definitions.specs.Refusals as refusals
+use Rattle.definitions.specs.Machine.{Answer, refused}
 use Rattle.layout.specs.declared.refusals.Reason.{Reason}
 use Rattle.layout.specs.declared.refusals.Reason.TheVariants.{
   Length,
@@ -56,3 +57,7 @@ number_of LastStep = 27
 abbrev pub told : {X : Type 0} → Result X Refusal → refusals.Check
 told (Ok x) = refusals.clear
 told (Err r) = refusals.refuses (number_of r.reason) r.place
+
+-- the machine's answer of a refusal
+abbrev pub refused_as : Refusal → Answer
+refused_as r = refused (number_of r.reason) r.place

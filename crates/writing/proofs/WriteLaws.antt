@@ -1,7 +1,7 @@
 -- The machine's outcome of a call that writes, case by case: what the call shows of its answer. Each carries what the mean is worth.
-use Rattle.std.specs.Prelude.{ℕ, ◌≤◌, ◌<◌, ◌≡◌, Bool, not, cond, List, ◌++◌, ltb, ℤ, length, drop}
+use Rattle.std.specs.Prelude.{ℕ, ◌≤◌, ◌<◌, ◌≡◌, Result, Ok, Err, IsOk, Bool, not, cond, List, ◌++◌, ltb, ℤ, length, drop}
 use Rattle.std.proofs.Math.Path.{refl}
-use Rattle.std.proofs.Common.{sym, ap, ◌∙◌, arith}
+use Rattle.std.proofs.Common.{sym, ap, ◌∙◌, arith, inl, inr}
 use Rattle.std.proofs.Math.Bool.{true, false}
 use borrow.Author.Tests.{lt-ltb, le-ltb}
 use Rattle.definitions.specs.Words.{part}
@@ -10,15 +10,13 @@ use Rattle.definitions.specs.Matrix as D
 use Rattle.definitions.specs.Matrix.{passes}
 use Rattle.definitions.specs.Strikes.{figures_left}
 use Rattle.definitions.specs.Machine.{Answer, written, refused, holds, Outcome, writes, write_call}
-use Rattle.layout.specs.declared.checks.Check.{Check}
-use Rattle.layout.specs.declared.checks.Check.TheVariants.{Refuses}
+use Rattle.layout.specs.declared.refusals.Reason.TheVariants.{Buffer, NothingOpen, NotPassed}
+use Rattle.layout.specs.declared.refusals.Refusal.{Refusal}
 use Rattle.chain.specs.Arrays.{figures_of, mean_of}
 use Rattle.holding.specs.State.{Held, Fits, state_held, state_of}
 use Rattle.holding.proofs.StateLaws.{state_of_held, state_of_empty}
 use Rattle.holding.proofs.Worth.{worth}
-use Rattle.holding.specs.Passing.{Passing, by_refusal}
-use Rattle.writing.specs.declared.WriteAnswer.{WriteAnswer}
-use Rattle.writing.specs.declared.WriteAnswer.TheVariants.{Written, Refused}
+use Rattle.holding.specs.Passing.{Refused}
 use Rattle.writing.specs.Writes.{of_write, Text, writes_to, Writes}
 
 pub refused_written : {number place : ℕ} → refused number place ≡ written → ⊥
@@ -44,8 +42,12 @@ module _ (size : ℕ → ℕ) (text : Text) (F : D.Figures) (μ : List ℤ) (tot
       by_cases true e a = e
       by_cases false e a = absurd (refused_written a)
 
+wrote : (r : Result Unit Refusal) → IsOk r → of_write r ≡ written
+wrote (Ok done) e = refl
+wrote (Err r) e = cc
+
 module _ (size : ℕ → ℕ) (text : Text) (s : Held) (before : Bytes) where
-  writes_as : (r : WriteAnswer) (after : Bytes) → of_write r ≡ (writes_to size text (state_of s) before).answer
+  writes_as : (r : Result Unit Refusal) (after : Bytes) → of_write r ≡ (writes_to size text (state_of s) before).answer
       → after ≡ (writes_to size text (state_of s) before).buffer → Writes size text s before r after
   writes_as r after a b = record {
     answer = a;
@@ -53,10 +55,10 @@ module _ (size : ℕ → ℕ) (text : Text) (s : Held) (before : Bytes) where
     worth = λ f μ total open-file told.
         worth open-file μ
         (written_passes size text (figures_left f) μ total before
-        (ap (λ x. (writes_to size text x before).answer) (sym open-file.state) ∙ sym a ∙ ap of_write told));
+        (ap (λ x. (writes_to size text x before).answer) (sym open-file.state) ∙ sym a ∙ wrote r told));
   }
 
-  pub writes_closed : ¬ Fits s → Writes size text s before (Refused 21 0) before
+  pub writes_closed : ¬ Fits s → Writes size text s before (Err (record { reason = NothingOpen; place = 0 })) before
   unfolding write_call
   writes_closed h = let e = state_of_empty s h in writes_as _ before (rw e refl) (rw e refl)
 
@@ -70,22 +72,21 @@ module _ (size : ℕ → ℕ) (text : Text) (s : Held) (before : Bytes) where
     is_open : state_of s ≡ state_held s
     is_open = state_of_held s h
 
-    pub writes_failing : passes F (part μ) ≡ false → Writes size text s before (Refused 24 0) before
+    pub writes_failing : passes F (part μ) ≡ false → Writes size text s before (Err (record { reason = NotPassed; place = 0 })) before
     unfolding write_call
     writes_failing p = writes_as _ before (rw (is_open, p) refl) (rw (is_open, p) refl)
 
     module _ (p : passes F (part μ) ≡ true) where
-      pub writes_short : length before < size s.figures.last → Writes size text s before (Refused 13 0) before
+      pub writes_short : length before < size s.figures.last → Writes size text s before (Err (record { reason = Buffer; place = 0 })) before
       unfolding write_call figures_of
       writes_short short = let l = lt-ltb _ _ short in writes_as _ before (rw (is_open, p, l) refl) (rw (is_open, p, l) refl)
 
       pub writes_written : size s.figures.last ≤ length before
-          → Writes size text s before Written (text F μ ++ drop (size s.figures.last) before)
+          → Writes size text s before (Ok tt) (text F μ ++ drop (size s.figures.last) before)
       unfolding write_call figures_of
       writes_written long = let l = le-ltb _ _ long in writes_as _ _ (rw (is_open, p, l) refl) (rw (is_open, p, l) refl)
 
   -- what 21 and 24 refuse, whatever was to be written
-  pub writes_refused : {c : Check} → Passing s c → {number place : ℕ} → c ≡ Refuses number place
-      → Writes size text s before (Refused number place) before
-  writes_refused checked e = by_refusal checked e (λ number place. Writes size text s before (Refused number place) before)
-      writes_closed writes_failing
+  pub writes_refused : (r : Refusal) → Refused s r → Writes size text s before (Err r) before
+  writes_refused r (inl (is-21, nothing)) = rw is-21 (writes_closed nothing)
+  writes_refused r (inr (is-24, open-file, fails)) = rw is-24 (writes_failing open-file fails)

@@ -5,17 +5,10 @@ ghost use Rattle.holding.specs.State.{held_at};
 ghost use Rattle.writing.specs.Writes.{Reads, Pages};
 
 use holding::passing::check_passing;
-use layout::checks::Check;
 use layout::places::record_length;
+use layout::refusals::{Reason, Refusal};
 use pages::{page_length, write_page};
 use records::write_record;
-
-#[derive(Drop)]
-pub enum WriteAnswer {
-    Written,
-    // The specification's number and place.
-    Refused(u64, usize),
-}
 
 // 21, 24, 13. The record at the front of the buffer; the bytes behind it stay.
 pub fn read_lent<'a>(
@@ -27,21 +20,18 @@ pub fn read_lent<'a>(
     right_hand: &'a [i64; 31],
     mean: &'a [i64; 31],
     buffer: &'a mut [u8],
-) -> WriteAnswer
+) -> Result<(), Refusal>
     ensures { Reads
         (held_at last closeness total own.now matrix.now right_hand.now mean.now)
         buffer.old result buffer.new }
 {
-    let checked = check_passing(last, closeness, total, own, matrix, right_hand, mean);
-    if let Check::Refuses(number, place) = checked {
-        return WriteAnswer::Refused(number, place);
-    }
+    check_passing(last, closeness, total, own, matrix, right_hand, mean)?;
     let year = last as u8;
     if buffer.len() < record_length(year) {
-        return WriteAnswer::Refused(13, 0);
+        return Err(Reason::Buffer.at(0));
     }
     write_record(buffer, year, mean);
-    WriteAnswer::Written
+    Ok(())
 }
 
 // 21, 24, 13. The page at the front of the buffer; the bytes behind it stay.
@@ -54,18 +44,15 @@ pub fn page_lent<'a>(
     right_hand: &'a [i64; 31],
     mean: &'a [i64; 31],
     buffer: &'a mut [u8],
-) -> WriteAnswer
+) -> Result<(), Refusal>
     ensures { Pages
         (held_at last closeness total own.now matrix.now right_hand.now mean.now)
         buffer.old result buffer.new }
 {
-    let checked = check_passing(last, closeness, total, own, matrix, right_hand, mean);
-    if let Check::Refuses(number, place) = checked {
-        return WriteAnswer::Refused(number, place);
-    }
+    check_passing(last, closeness, total, own, matrix, right_hand, mean)?;
     if buffer.len() < page_length(last) {
-        return WriteAnswer::Refused(13, 0);
+        return Err(Reason::Buffer.at(0));
     }
     write_page(buffer, last, mean, own);
-    WriteAnswer::Written
+    Ok(())
 }
