@@ -1,5 +1,5 @@
 -- The machine's outcome of a judge, case by case: what the call shows of its answer. Each carries both halves of demand 3.
-use Rattle.std.specs.Prelude.{ℕ, ◌≡◌, refl, true, List, ℤ}
+use Rattle.std.specs.Prelude.{ℕ, ◌≡◌, refl, true, List, ℤ, Result, Ok, Err}
 use Rattle.std.proofs.Common.{sym, ◌∙◌, arith}
 use Rattle.std.proofs.Math.Path.{ap}
 use Rattle.std.proofs.lemmas.Bool.{false≢true}
@@ -11,11 +11,15 @@ use Rattle.definitions.specs.Matrix.{Judgement, passed, fails, judgement, is_pas
 use Rattle.definitions.specs.Strikes.{StruckFile, figures_left}
 use Rattle.definitions.specs.Machine.{Answer, judged, refused, holds, refused_or, judge_call}
 use Rattle.chain.specs.Arrays.{figures_of}
+use Rattle.layout.specs.declared.refusals.Reason.TheVariants.{NothingOpen}
+use Rattle.layout.specs.declared.refusals.Refusal.{Refusal}
+use Rattle.layout.specs.Refusals.{number_of}
+use Rattle.chain.specs.declared.judge.Judgement as C
+use Rattle.chain.specs.declared.judge.Judgement.TheVariants.{Passed, Fails}
+use Rattle.chain.specs.Judge.{judgement_of}
 use Rattle.holding.specs.State.{Held, Fits, state_of}
 use Rattle.holding.proofs.StateLaws.{state_of_held, state_of_empty}
 use Rattle.holding.proofs.Worth.{worth, rounded}
-use Rattle.judging.specs.declared.JudgeAnswer.{JudgeAnswer}
-use Rattle.judging.specs.declared.JudgeAnswer.TheVariants.{Passed, Fails, Refused}
 use Rattle.judging.specs.Judges.{of_judge, judges_to, Judges}
 
 judged_refused : {j : Judgement} {number place : ℕ} → judged j ≡ refused number place → ⊥
@@ -31,10 +35,10 @@ is_passed_lem : (j : Judgement) → is_passed j ≡ true → j ≡ passed
 is_passed_lem passed e = refl
 is_passed_lem (fails k) e = absurd (false≢true e)
 
-of_passed : (a : JudgeAnswer) → of_judge a ≡ judged passed → a ≡ Passed
-of_passed Passed e = refl
-of_passed (Fails k) e = absurd (fails_passed (judged_same e))
-of_passed (Refused number place) e = absurd (judged_refused (sym e))
+of_passed : (a : Result C.Judgement Refusal) → of_judge a ≡ judged passed → a ≡ Ok Passed
+of_passed (Ok Passed) e = refl
+of_passed (Ok (Fails k)) e = absurd (fails_passed (judged_same e))
+of_passed (Err r) e = absurd (judged_refused (sym e))
 
 refused_or_lem : (c : Check) (a : Answer) (j : Judgement) → refused_or c a ≡ judged j → a ≡ judged j
 refused_or_lem clear a j e = e
@@ -56,7 +60,7 @@ module _ (f : StruckFile) (μ : List ℤ) (total : ℕ) (r : Bytes) where
 
 module _ (s : Held) (r : Bytes) where
   -- every answer that is the machine's carries both halves
-  judges : (a : JudgeAnswer) → of_judge a ≡ judges_to (state_of s) r → Judges s r a
+  judges : (a : Result C.Judgement Refusal) → of_judge a ≡ judges_to (state_of s) r → Judges s r a
   judges a e = record {
     answer = e;
     worth = λ f μ total open-file passing.
@@ -68,24 +72,18 @@ module _ (s : Held) (r : Bytes) where
         ∙ passes_passed f μ total r c (rounded open-file (mean_of (last_year f.file) r) near));
   }
 
-  pub judges_closed : ¬ Fits s → Judges s r (Refused 21 0)
+  pub judges_closed : ¬ Fits s → Judges s r (Err (record { reason = NothingOpen; place = 0 }))
   unfolding judge_call
-  judges_closed h = judges (Refused 21 0) (rw (state_of_empty s h) refl)
+  judges_closed h = judges _ (rw (state_of_empty s h) refl)
 
   module _ (h : Fits s) where
-    pub judges_refused : (number place : ℕ) → record_check s.figures.last r ≡ refuses number place
-        → Judges s r (Refused number place)
+    pub judges_refused : (refusal : Refusal) → record_check s.figures.last r ≡ refuses (number_of refusal.reason) refusal.place
+        → Judges s r (Err refusal)
     unfolding judge_call figures_of
-    judges_refused number place c = judges (Refused number place) (rw (state_of_held s h, c) refl)
+    judges_refused refusal c = judges (Err refusal) (rw (state_of_held s h, c) refl)
 
     -- of the record's mean
-    abbrev verdict : Judgement
-    verdict = judgement (figures_of s.figures) (part (mean_of s.figures.last r))
-
-    pub judges_passed : record_check s.figures.last r ≡ clear → verdict ≡ passed → Judges s r Passed
+    pub judges_verdict : (verdict : C.Judgement) → record_check s.figures.last r ≡ clear
+        → judgement_of verdict ≡ judgement (figures_of s.figures) (part (mean_of s.figures.last r)) → Judges s r (Ok verdict)
     unfolding judge_call figures_of
-    judges_passed c j = judges Passed (rw (state_of_held s h, c) (ap judged (sym j)))
-
-    pub judges_fails : (k : ℕ) → record_check s.figures.last r ≡ clear → verdict ≡ fails k → Judges s r (Fails k)
-    unfolding judge_call figures_of
-    judges_fails k c j = judges (Fails k) (rw (state_of_held s h, c) (ap judged (sym j)))
+    judges_verdict verdict c j = judges (Ok verdict) (rw (state_of_held s h, c) (ap judged j))
