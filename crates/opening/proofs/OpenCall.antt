@@ -1,5 +1,5 @@
 -- What opening a file that the checks let pass gives: its observations, figures that fit, and the prior means as mean.
-use Rattle.std.specs.Prelude.{ℕ, ◌<◌, ◌≡◌, refl, List, ℤ}
+use Rattle.std.specs.Prelude.{ℕ, ◌<◌, ◌≡◌, refl, List, ℤ, Ok}
 use Rattle.std.proofs.Common.{sym, ap, subst, ◌∙◌, arith}
 use Rattle.definitions.specs.Words.{part, tab_from}
 use Rattle.definitions.specs.Layout.{Bytes, last_year, closeness, parts, prior_mean, amount}
@@ -24,7 +24,6 @@ use Rattle.chain.specs.Fitting.{Fitting}
 use Rattle.chain.proofs.AcceptedFits.{admitted_fits}
 use Rattle.figures.specs.Gathered.{OfObservations, FiguresOf}
 use Rattle.holding.specs.State.{Held, Fits}
-use Rattle.opening.specs.declared.OpenAnswer.TheVariants.{Opened}
 use Rattle.opening.specs.Opens.{Opens}
 use Rattle.opening.proofs.OpenLaws.{opens_done}
 
@@ -85,7 +84,7 @@ module _ (f : Bytes) (passed : file_check f ≡ clear) {ticks : List ℤ} {weigh
     mean_is = tab_cong 0 (parts J) (λ k from below. part_is k (omega arith))
 
     pub done : (s : Held) (before : Observations) → ¬ Fits s
-        → Opens s before f Opened after (observations_at ticks weights variances struck)
+        → Opens s before f (Ok tt) after (observations_at ticks weights variances struck)
     done s before closed =
         opens_done s before f closed passed after (observations_at ticks weights variances struck) after_fits same
         (kept f known o) (none_kept f known o) mean_is refl

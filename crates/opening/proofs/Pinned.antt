@@ -1,5 +1,5 @@
 -- What callers can count on, in plain numbers, each drawn from the contract of open alone.
-use Rattle.std.specs.Prelude.{ℕ, ◌≡◌}
+use Rattle.std.specs.Prelude.{ℕ, ◌≡◌, Result, Ok, Err}
 use Rattle.std.proofs.Math.Path.{refl, ap}
 use Rattle.std.proofs.Common.{sym, ◌∙◌, arith}
 use Rattle.definitions.specs.Words.{tab_from}
@@ -10,24 +10,23 @@ use Rattle.definitions.specs.Machine.{Answer, opened, refused, empty, holds, map
 use Rattle.definitions.specs.Kept.{Kept, kept_of, in_session}
 use Rattle.laws.proofs.StruckFiles.{admitted}
 use Rattle.laws.proofs.Number16.{open_with16, alike_without_16}
+use Rattle.layout.specs.declared.refusals.Refusal.{Refusal}
 use Rattle.observations.specs.declared.Observations.{Observations}
 use Rattle.holding.specs.State.{Held, state_of, kept_with, session_state, HoldsFile}
 use Rattle.holding.proofs.StateLaws.{held_of_session}
-use Rattle.opening.specs.declared.OpenAnswer.{OpenAnswer}
-use Rattle.opening.specs.declared.OpenAnswer.TheVariants.{Opened, Refused}
 use Rattle.opening.specs.Opens.{of_open, opens_to, Opens}
 
 -- a call that is refused leaves the session as it was
-pub open_refused : (s t : Held) (o p : Observations) (file : Bytes) (number place : ℕ) → Opens s o file (Refused number place) t p
+pub open_refused : (s t : Held) (o p : Observations) (file : Bytes) (r : Refusal) → Opens s o file (Err r) t p
     → (t ≡ s) × (p ≡ o)
-open_refused s t o p file number place call = call.same number place refl
+open_refused s t o p file r call = call.same refl
 
 -- ---- what open leaves is a file that the other calls speak of, with its observations
 
 opened_refused : {number place : ℕ} → ◌≡◌ {A = Answer} opened (refused number place) → ⊥
 opened_refused e = let z : ◌≡◌ {A = ℕ} 0 1 = cc in omega arith
 
-module _ (s t : Held) (o p : Observations) (f : Bytes) (none : state_of s ≡ empty) (call : Opens s o f Opened t p) where
+module _ (s t : Held) (o p : Observations) (f : Bytes) (none : state_of s ≡ empty) (call : Opens s o f (Ok tt) t p) where
   abbrev to : Check → Outcome Kept
   to c = open_unless in_session c f
 
@@ -53,7 +52,7 @@ module _ (s t : Held) (o p : Observations) (f : Bytes) (none : state_of s ≡ em
 
 -- ---- document 02: with number 16 behind 1 to 10, of every session and file, it would answer and leave the same
 
-pub as_with_16 : (s t : Held) (o p : Observations) (f : Bytes) (r : OpenAnswer) → Opens s o f r t p
+pub as_with_16 : (s t : Held) (o p : Observations) (f : Bytes) (r : Result Unit Refusal) → Opens s o f r t p
     → let with_16 : Outcome Kept = open_with16 Kept in_session (session_state o s) f in
     (of_open r ≡ with_16.answer) × (session_state p t ≡ with_16.state)
 as_with_16 s t o p f r call =

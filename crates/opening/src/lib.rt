@@ -8,19 +8,12 @@ ghost use Rattle.opening.specs.Opens.{Opens};
 
 use figures::figures_in;
 use holding::bounds::is_open;
-use layout::checks::Check;
 use layout::checks::file::check_file;
 use layout::places::last_year;
+use layout::refusals::{Reason, Refusal};
 use observations::means::start_mean;
 use observations::observe;
 use readings::closeness_of;
-
-#[derive(Drop)]
-pub enum OpenAnswer {
-    Opened,
-    // The specification's number and place.
-    Refused(u64, usize),
-}
 
 // 22, then 1 to 10. `held` has J, the closeness and the sweeps run since open or the last strike.
 pub fn open_lent<'a>(
@@ -34,7 +27,7 @@ pub fn open_lent<'a>(
     variances: &'a mut [u64; 31],
     struck: &'a mut [u8; 496],
     file: &'a [u8],
-) -> OpenAnswer
+) -> Result<(), Refusal>
     ensures { Opens
         (held_in held.old own.old matrix.old right_hand.old mean.old)
         (observations_at ticks.old weights.old variances.old struck.old)
@@ -51,17 +44,14 @@ pub fn open_lent<'a>(
         right_hand,
         mean,
     ) {
-        return OpenAnswer::Refused(22, 0);
+        return Err(Reason::FileOpen.at(0));
     }
-    let checked = check_file(file);
-    if let Check::Refuses(number, place) = checked {
-        return OpenAnswer::Refused(number, place);
-    }
+    check_file(file)?;
     let last = last_year(file);
     observe(ticks, weights, variances, struck, file);
     figures_in(own, matrix, right_hand, ticks, weights, struck, last);
     start_mean(mean, ticks, last);
     let numbers = [last as u64, closeness_of(file), 0];
     *held = numbers;
-    OpenAnswer::Opened
+    Ok(())
 }

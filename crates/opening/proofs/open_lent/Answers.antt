@@ -1,19 +1,18 @@
 -- `open_lent` meets its contract: after 22 and the checks of the file, its observations, its figures and the prior means are held.
+use Rattle.std.proofs.Common.{Ok, Err, arith}
 use Prim.Native.Nat.{ℕ}
-use mathlib.Core.Path.{◌≡◌, sym, ap, subst, subst₂, ◌∙◌}
+use mathlib.Core.Path.{◌≡◌, sym, subst, subst₂}
 use mathlib.Core.List.{List}
 use borrow.Author.Rules.{rules}
 use lib.IntN.{ℤ}
 use Rattle.definitions.specs.Layout.{Bytes, last_year, closeness}
 use Rattle.definitions.specs.Refusals.{clear, file_check}
-use Rattle.layout.specs.Checks.{told}
-use Rattle.layout.specs.CheckLaws.{passed, file_whole}
+use Rattle.layout.specs.CheckLaws.{file_whole}
 use Rattle.observations.specs.declared.Observations.{Observations}
 use Rattle.observations.specs.Arrays.{observations_at}
 use Rattle.observations.specs.Means.{OfMeans, PriorMeans}
 use Rattle.figures.specs.Gathered.{OfObservations, FiguresOf}
 use Rattle.holding.specs.State.{Held, Fits, held_at, held_in}
-use Rattle.opening.specs.declared.OpenAnswer.TheVariants.{Opened}
 use Rattle.opening.specs.Opens.{Opens}
 use Rattle.opening.proofs.OpenLaws.{opens_taken, opens_refused}
 use Rattle.opening.proofs.OpenCall.{file_accepted, of_means, of_observations, done}
@@ -21,23 +20,24 @@ use Rattle.opening.proofs.open_lent.Goals as goal
 use Rattle.opening.proofs.open_lent.Goals.{After-last_year-last, After-observe, After-start_mean, Else-is_open, Start}
 
 pub returns-then-is_open : goal.returns-then-is_open
-returns-then-is_open c = opens_taken _ _ _ (c.is_open.ensures.when_yes c.if-is_open.true)
+returns-then-is_open c = rw c.at.ensures (opens_taken _ _ _ (c.is_open.ensures.when_yes c.if-is_open.true))
 
 -- the session that is lent
 abbrev S : Start → Held
 S s = held_in s.args.held.now s.args.own.now s.args.matrix.now s.args.right_hand.now s.args.mean.now
 
-pub check_file-checked-requires : goal.check_file-checked-requires
-check_file-checked-requires c = search rules
+pub check_file-requires : goal.check_file-requires
+check_file-requires c = search rules
 
 -- no file is open
-closed : (c : Else-is_open) → ¬ Fits (S (goal.at.check_file-checked-requires c).Start)
+closed : (c : Else-is_open) → ¬ Fits (S (goal.at.check_file-requires c).Start)
 closed c = c.is_open.ensures.when_no c.if-is_open.false
 
-pub returns-in-Refuses : goal.returns-in-Refuses
-returns-in-Refuses c =
-    opens_refused _ _ _ (closed (goal.at.returns-in-Refuses c).Else-is_open) _ _
-    (sym c.check_file-checked.ensures ∙ ap told c.in-Refuses.is)
+pub returns-in_err-check_file : goal.returns-in_err-check_file
+returns-in_err-check_file c =
+    let refusal = c.in_err-check_file.field-0.0 in
+    let handed : c.from_residual.result ≡ Err refusal = grind arith in
+    rw handed (opens_refused _ _ _ (closed (goal.at.returns-in_err-check_file c).Else-is_open) refusal (sym c.in_err-check_file.ensures))
 
 -- the file, whose checks are clear, and its J
 module _ (c : After-last_year-last) where
@@ -45,7 +45,7 @@ module _ (c : After-last_year-last) where
   bytes = c.args.file.now
 
   clear_file : file_check bytes ≡ clear
-  clear_file = passed c.check_file-checked.ensures c.in_default.is
+  clear_file = sym c.in_ok-check_file.ensures
 
   year : c.last_year-last.result ≡ last_year bytes
   year = c.last_year-last.ensures
@@ -59,7 +59,7 @@ observe-requires c =
 module _ (c : After-observe) where
   -- its checks
   cleared : file_check c.args.file.now ≡ clear
-  cleared = passed c.check_file-checked.ensures c.in_default.is
+  cleared = sym c.in_ok-check_file.ensures
 
   abbrev ticks : List ℤ
   ticks = c.observe.new.ticks
@@ -108,7 +108,7 @@ module _ (c : After-start_mean) where
       let a = c.args in
       observations_at a.ticks.now a.weights.now a.variances.now a.struck.now
 
-  opened : Opens (S start) before file Opened (after (last_year file) (closeness file))
+  opened : Opens (S start) before file (Ok tt) (after (last_year file) (closeness file))
       (observations_at (ticks after_observe) (weights after_observe) (variances after_observe) (struck after_observe))
   opened =
       let F = c.figures_in.new in
@@ -125,6 +125,6 @@ pub returns : goal.returns
 returns c =
     let after_observe = (goal.at.returns c).After-observe in
     let after_start_mean = (goal.at.returns c).After-start_mean in
-    subst₂ (λ J e. Opens (S (goal.at.returns c).Start) (before after_start_mean) (file after_start_mean) Opened (after after_start_mean J e)
+    subst₂ (λ J e. Opens (S (goal.at.returns c).Start) (before after_start_mean) (file after_start_mean) (Ok tt) (after after_start_mean J e)
     (observations_at (ticks after_observe) (weights after_observe) (variances after_observe) (struck after_observe)))
     (sym (year (goal.at.returns c).After-last_year-last)) (sym c.closeness_of.ensures) (opened after_start_mean)
