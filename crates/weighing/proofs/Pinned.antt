@@ -1,6 +1,6 @@
 -- What callers can count on, in plain numbers, drawn from the contract of residues alone: a call that is refused leaves the buffer as it
 -- was, and of an open file what is written are the residues that the matrix gives.
-use Rattle.std.specs.Prelude.{ℕ, ◌+◌, ◌*◌, ◌<◌, ◌≡◌, refl, List, leb, ℤ, length}
+use Rattle.std.specs.Prelude.{ℕ, ◌+◌, ◌*◌, ◌<◌, ◌≡◌, refl, List, leb, ℤ, length, Ok, Err}
 use Rattle.std.proofs.Common.{sym, ◌∙◌}
 use Rattle.definitions.specs.Words.{part}
 use Rattle.definitions.specs.Layout.{Bytes, last_year, mean_of}
@@ -10,9 +10,10 @@ use Rattle.definitions.specs.Residues.{residues_length, residue_at}
 use Rattle.definitions.specs.Strikes.{StruckFile, Admitted, figures_left}
 use Rattle.definitions.specs.Machine.{refused, State, empty, holds, writes_unless, residues_call}
 use Rattle.definitions.specs.Kept.{Kept, kept_of, chain_kept}
+use Rattle.layout.specs.declared.refusals.Refusal.{Refusal}
+use Rattle.layout.specs.Refusals.{number_of}
 use Rattle.observations.specs.declared.Observations.{Observations}
 use Rattle.holding.specs.State.{Held, session_state}
-use Rattle.writing.specs.declared.WriteAnswer.TheVariants.{Written, Refused}
 use Rattle.writing.proofs.WriteLaws.{refused_written}
 use Rattle.weighing.specs.Weighs.{weighs_to, Weighs}
 
@@ -30,11 +31,11 @@ refused_leaves (holds x μ count) r b number place e =
     by_check (refuses n p) text told = refl
 
 module _ (o : Observations) (s : Held) (r before after : Bytes) where
-  pub residues_refused : (number place : ℕ) → Weighs o s r before (Refused number place) after → after ≡ before
-  residues_refused number place call =
-      call.buffer ∙ refused_leaves (session_state o s) r before number place (sym call.answer)
+  pub residues_refused : (refusal : Refusal) → Weighs o s r before (Err refusal) after → after ≡ before
+  residues_refused refusal call =
+      call.buffer ∙ refused_leaves (session_state o s) r before (number_of refusal.reason) refusal.place (sym call.answer)
 
   pub residues_written : (f : StruckFile) (μ : List ℤ) (count : ℕ) → Admitted f → session_state o s ≡ holds (kept_of f) μ count
-      → Weighs o s r before Written after → (k : ℕ) → k < 2 * last_year f.file + 1
+      → Weighs o s r before (Ok tt) after → (k : ℕ) → k < 2 * last_year f.file + 1
       → residue_at after k ≡ residue (figures_left f) (part (mean_of (last_year f.file) r)) k
   residues_written f μ count file kept call = call.of_file f μ count file kept refl

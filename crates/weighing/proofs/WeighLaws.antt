@@ -1,6 +1,6 @@
 -- The machine's outcome of residues, case by case: what the call shows of its answer. Each carries, of an open file, that what is written
 -- are the residues by the matrix.
-use Rattle.std.specs.Prelude.{ℕ, ◌≤◌, ◌<◌, ◌≡◌, List, ◌++◌, leb, ℤ, pos, length}
+use Rattle.std.specs.Prelude.{ℕ, ◌≤◌, ◌<◌, ◌≡◌, List, ◌++◌, leb, ℤ, pos, length, Result, Ok, Err}
 use Rattle.std.proofs.Math.Path.{refl, sym, ap₂}
 use Rattle.std.proofs.Common.{ap, ◌∙◌, zero-add}
 use borrow.Author.Tests.{le-leb, lt-leb}
@@ -23,6 +23,9 @@ use Rattle.laws.proofs.ObservedResidues.{residues_long, residues_read, observed_
 use Rattle.laws.proofs.SameChains.{same_self}
 use Rattle.laws.proofs.StruckFiles.{struck_chain}
 use Rattle.laws.proofs.Tables.{tab_at}
+use Rattle.layout.specs.declared.refusals.Reason.TheVariants.{Buffer, NothingOpen}
+use Rattle.layout.specs.declared.refusals.Refusal.{Refusal}
+use Rattle.layout.specs.Refusals.{number_of}
 use Rattle.layout.specs.CheckLaws.{then_clear}
 use Rattle.observations.specs.declared.Observations.{Observations}
 use Rattle.records.proofs.MeanOfRecord.{part_small}
@@ -30,10 +33,8 @@ use Rattle.chain.specs.Arrays.{figures_of}
 use Rattle.differences.specs.Differences.{left_in}
 use Rattle.holding.specs.State.{Held, Fits, session_state}
 use Rattle.holding.proofs.StateLaws.{state_of_held, state_of_empty}
-use Rattle.writing.specs.declared.WriteAnswer.{WriteAnswer}
-use Rattle.writing.specs.declared.WriteAnswer.TheVariants.{Written, Refused}
 use Rattle.writing.specs.Writes.{of_write}
-use Rattle.writing.proofs.WriteLaws.{refused_written}
+use Rattle.writing.proofs.WriteLaws.{refused_written, wrote}
 use Rattle.weighing.specs.Weighs.{weighs_to, Weighs}
 
 -- of a file, with the steps that are struck: written only where the record is not refused, and then in front of the buffer
@@ -67,7 +68,7 @@ unfolding figures_from
 years_kept f = refl
 
 module _ (o : Observations) (s : Held) (r before : Bytes) where
-  weighs_as : (a : WriteAnswer) (after : Bytes) → of_write a ≡ (weighs_to (session_state o s) r before).answer
+  weighs_as : (a : Result Unit Refusal) (after : Bytes) → of_write a ≡ (weighs_to (session_state o s) r before).answer
       → after ≡ (weighs_to (session_state o s) r before).buffer → Weighs o s r before a after
   weighs_as a after answer buffer = record {
     answer = answer;
@@ -77,21 +78,21 @@ module _ (o : Observations) (s : Held) (r before : Bytes) where
         ap (λ st. weighs_to st r before) kept
         ∙ residues_alike kept_of chain_left chain_kept years_kept chain_kept_lem (holds f μ total) r before in
         ap (λ b. residue_at b k) (buffer ∙ ap (λ x. x.buffer) as_file)
-        ∙ written_are f file μ total r before (sym (ap (λ x. x.answer) as_file) ∙ sym answer ∙ ap of_write told) k below;
+        ∙ written_are f file μ total r before (sym (ap (λ x. x.answer) as_file) ∙ sym answer ∙ wrote a told) k below;
   }
 
-  pub weighs_closed : ¬ Fits s → Weighs o s r before (Refused 21 0) before
+  pub weighs_closed : ¬ Fits s → Weighs o s r before (Err (record { reason = NothingOpen; place = 0 })) before
   unfolding residues_call
   weighs_closed h = let e = state_of_empty s h in weighs_as _ before (rw e refl) (rw e refl)
 
   module _ (h : Fits s) where
-    pub weighs_refused : (number place : ℕ) → record_check s.figures.last r ≡ refuses number place
-        → Weighs o s r before (Refused number place) before
+    pub weighs_refused : (refusal : Refusal) → record_check s.figures.last r ≡ refuses (number_of refusal.reason) refusal.place
+        → Weighs o s r before (Err refusal) before
     unfolding residues_call figures_of
-    weighs_refused number place c = let e = state_of_held s h in weighs_as _ before (rw (e, c) refl) (rw (e, c) refl)
+    weighs_refused refusal c = let e = state_of_held s h in weighs_as _ before (rw (e, c) refl) (rw (e, c) refl)
 
     module _ (taken : record_check s.figures.last r ≡ clear) where
-      pub weighs_short : length before < residues_length s.figures.last → Weighs o s r before (Refused 13 0) before
+      pub weighs_short : length before < residues_length s.figures.last → Weighs o s r before (Err (record { reason = Buffer; place = 0 })) before
       unfolding residues_call figures_of
       weighs_short short =
           let e = state_of_held s h in
@@ -120,10 +121,10 @@ module _ (o : Observations) (s : Held) (r before : Bytes) where
           → ((k : ℕ) → part m k ≡ part (mean_of s.figures.last r) k)
           → Filled 31 (parts s.figures.last) (pos 0) (observed_times (left_in s.figures.last o) 1 (part m)) v
           → after ≡ number_bytes 8 0 (parts s.figures.last) v ++ drop (residues_length s.figures.last) before
-          → Weighs o s r before Written after
+          → Weighs o s r before (Ok tt) after
       unfolding residues_call figures_of
       weighs_written long m v after same filled is =
           let e = state_of_held s h in
           let l = le-leb _ _ long in
           let front = ap₂ (λ text n. text ++ drop n before) (text_is m v same filled) (sym (residues_long kept_chain mean)) in
-          weighs_as Written after (rw (e, taken, l) refl) (is ∙ front ∙ sym (rw (e, taken, l) refl))
+          weighs_as (Ok tt) after (rw (e, taken, l) refl) (is ∙ front ∙ sym (rw (e, taken, l) refl))

@@ -18,11 +18,7 @@ pub fn residues_length(last: u8) -> usize
 fn eight_bytes(z: i64) -> u64
     ensures { result ≡ complement 8 z }
 {
-    if z < 0 {
-        18446744073709551615 - (-1 - z) as u64
-    } else {
-        z as u64
-    }
+    z.cast_unsigned()
 }
 
 // At the front of the buffer; the bytes behind them stay.
@@ -31,11 +27,8 @@ pub fn write_residues(buf: &mut [u8], last: u8, residues: &[i64; 31])
     ensures { buf.new
         ≡ number_bytes 8 0 (parts last) residues.now ++ drop (residues_length last) buf.old }
 {
-    let n = parts_of(last);
-    let mut k = 0usize;
-    while k < n {
+    for k in 0..parts_of(last) {
         let z = residues[k];
         put_eight(buf, 8 * k, eight_bytes(z));
-        k += 1;
     }
 }

@@ -8,9 +8,8 @@ ghost use Rattle.weighing.specs.Weighs.{WeighsLent};
 use crate::bytes::{residues_length, write_residues};
 use differences::residues_of;
 use holding::bounds::is_open;
-use layout::checks::Check;
+use layout::refusals::{Reason, Refusal};
 use records::parse;
-use writing::WriteAnswer;
 
 mod bytes;
 
@@ -29,25 +28,20 @@ pub fn residues_lent<'a>(
     struck: &'a [u8; 496],
     lent: &'a [u8],
     buffer: &'a mut [u8],
-) -> WriteAnswer
+) -> Result<(), Refusal>
     ensures { WeighsLent ticks.now weights.now struck.now
         (held_at last closeness total own.now matrix.now right_hand.now mean.now)
         lent.now buffer.old result buffer.new }
 {
     if !is_open(last, closeness, total, own, matrix, right_hand, mean) {
-        return WriteAnswer::Refused(21, 0);
+        return Err(Reason::NothingOpen.at(0));
     }
     let years = last as u8;
-    let parsed = parse(years, lent);
-    let checked = parsed.check;
-    if let Check::Refuses(number, place) = checked {
-        return WriteAnswer::Refused(number, place);
-    }
+    let of_record = parse(years, lent)?;
     if buffer.len() < residues_length(years) {
-        return WriteAnswer::Refused(13, 0);
+        return Err(Reason::Buffer.at(0));
     }
-    let of_record = parsed.mean;
     let residues = residues_of(ticks, weights, struck, &of_record, years);
     write_residues(buffer, years, &residues);
-    WriteAnswer::Written
+    Ok(())
 }

@@ -42,7 +42,7 @@ module _ (size : ℕ → ℕ) (text : Text) (F : D.Figures) (μ : List ℤ) (tot
       by_cases true e a = e
       by_cases false e a = absurd (refused_written a)
 
-wrote : (r : Result Unit Refusal) → IsOk r → of_write r ≡ written
+pub wrote : (r : Result Unit Refusal) → IsOk r → of_write r ≡ written
 wrote (Ok done) e = refl
 wrote (Err r) e = cc
 
