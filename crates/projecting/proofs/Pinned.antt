@@ -1,6 +1,6 @@
 -- What callers can count on, in plain numbers, drawn from the contract of the call alone: that floor, remainder and divisor are those of
 -- the numerator, of every session, and what the mean is worth that they are taken from.
-use Rattle.std.specs.Prelude.{ℕ, ◌<◌, ◌≡◌, refl, List, ℤ, pos, ◌+ℤ◌, ◌*ℤ◌}
+use Rattle.std.specs.Prelude.{ℕ, ◌<◌, ◌≡◌, refl, Ok, List, ℤ, pos, ◌+ℤ◌, ◌*ℤ◌}
 use Rattle.definitions.specs.Words.{part}
 use Rattle.definitions.specs.Layout.{closeness}
 use Rattle.definitions.specs.Matrix.{Figures}
@@ -11,10 +11,9 @@ use Rattle.laws.proofs.Pinned.{Worth, worth}
 use Rattle.observations.specs.declared.Observations.{Observations}
 use Rattle.holding.specs.State.{Held, state_of, HoldsFile}
 use Rattle.projecting.specs.declared.Ultimate.{Ultimate}
-use Rattle.projecting.specs.declared.UltimateAnswer.TheVariants.{Central}
 use Rattle.projecting.specs.Projects.{latest_with, Projects}
 
-module _ (o : Observations) (s : Held) (year : ℕ) (u : Ultimate) (call : Projects o s year (Central u)) where
+module _ (o : Observations) (s : Held) (year : ℕ) (u : Ultimate) (call : Projects o s year (Ok u)) where
   pub ultimate_exact : (F : Figures) (μ : List ℤ) (count : ℕ) → state_of s ≡ holds F μ count
       → (u.floor *ℤ pos u.divisor +ℤ pos u.remainder ≡ numerator F.last (latest_with o F) year (part μ))
       × (u.remainder < u.divisor)

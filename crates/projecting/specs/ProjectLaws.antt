@@ -8,7 +8,6 @@ use Rattle.definitions.specs.Ultimate as U
 use Rattle.definitions.specs.Ultimate.{ultimate_of}
 use Rattle.laws.specs.Accepted.{Within}
 use Rattle.observations.specs.declared.Observations.{Observations}
-use Rattle.projecting.specs.declared.Ultimate.{Ultimate}
 use Rattle.projecting.specs.Projects.{latest_with}
 
 -- a figure is answered only for a year of 1..J, where the mean that is held passes, and it is the definitions'

@@ -23,10 +23,8 @@ fn part_sum(mean: &[i64; 31], first: usize, count: usize) -> Ticks
     ensures { PartSum mean.now first count result }
 {
     let mut total = 0i64;
-    let mut m = 0usize;
-    while m < count {
+    for m in 0..count {
         total += mean[first + m];
-        m += 1;
     }
     Ticks(total)
 }
@@ -37,11 +35,9 @@ fn variance_sum(variances: &[u64; 31], first: usize, count: usize) -> Variance
     ensures { VarianceSum variances.now first count result }
 {
     let mut total = 0u64;
-    let mut m = 0usize;
-    while m < count {
+    for m in 0..count {
         let next = kept_variance(variances, first + m);
         total += next.0;
-        m += 1;
     }
     Variance(total)
 }
@@ -62,7 +58,7 @@ fn side_of<'a>(
     let variance = variance_sum(variances, first, count);
     Side {
         ultimate: Ticks(known.0 + expected.0),
-        variance: variance,
+        variance,
     }
 }
 
@@ -78,7 +74,7 @@ fn weighted(paid: Side, incurred: Side) -> Ultimate
     Ultimate {
         floor: found.floor,
         remainder: found.rest,
-        divisor: divisor,
+        divisor,
     }
 }
 

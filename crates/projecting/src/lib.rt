@@ -6,23 +6,16 @@ ghost use Rattle.projecting.specs.Projects.{ProjectsLent};
 
 use crate::central::central_ultimate;
 use holding::passing::check_passing;
-use layout::checks::Check;
+use layout::refusals::{Reason, Refusal};
 
 mod central;
 
 // A figure in ticks: floor and remainder over the divisor.
-#[derive(Drop)]
+#[derive(Clone, Copy, Debug, PartialEq, Eq)]
 pub struct Ultimate {
     pub floor: i64,
     pub remainder: u64,
     pub divisor: u64,
-}
-
-#[derive(Drop)]
-pub enum UltimateAnswer {
-    Central(Ultimate),
-    // The specification's number and place.
-    Refused(u64, usize),
 }
 
 // 21, 24, 25. Of the observations it is lent those that it reads.
@@ -37,21 +30,17 @@ pub fn ultimate_lent<'a>(
     ticks: &'a [i64; 303],
     variances: &'a [u64; 31],
     year: u64,
-) -> UltimateAnswer
+) -> Result<Ultimate, Refusal>
     ensures { ProjectsLent ticks.now variances.now
         (held_at last closeness total own.now matrix.now right_hand.now mean.now)
         year result }
 {
-    let checked = check_passing(last, closeness, total, own, matrix, right_hand, mean);
-    if let Check::Refuses(number, place) = checked {
-        return UltimateAnswer::Refused(number, place);
-    }
+    check_passing(last, closeness, total, own, matrix, right_hand, mean)?;
     if year < 1 {
-        return UltimateAnswer::Refused(25, 0);
+        return Err(Reason::UltimateYear.at(0));
     }
     if (last as u64) < year {
-        return UltimateAnswer::Refused(25, 0);
+        return Err(Reason::UltimateYear.at(0));
     }
-    let found = central_ultimate(last, mean, ticks, variances, year as usize);
-    UltimateAnswer::Central(found)
+    Ok(central_ultimate(last, mean, ticks, variances, year as usize))
 }

@@ -1,6 +1,7 @@
 -- `ultimate_lent` meets its contract: after 21, 24 and 25 the figure of the year is answered.
 use Prim.Native.Nat.{ℕ}
 use mathlib.Core.Path.{◌≡◌}
+use Rattle.std.proofs.Common.{Err}
 use mathlib.Core.Bool.{true}
 use mathlib.Core.List.{List}
 use native.Mathlib.Omega.{arith}
@@ -12,7 +13,7 @@ use Rattle.holding.specs.Fitted.{frame}
 use Rattle.holding.specs.Passing.{held_passes}
 use Rattle.projecting.proofs.ProjectLaws.{projects_refused, projects_before, projects_behind, projects_central}
 use Rattle.projecting.proofs.ultimate_lent.Goals as goal
-use Rattle.projecting.proofs.ultimate_lent.Goals.{In_default, Start}
+use Rattle.projecting.proofs.ultimate_lent.Goals.{In_ok-check_passing, Start}
 
 -- what is lent
 module _ (c : Start) where
@@ -22,42 +23,44 @@ module _ (c : Start) where
   abbrev o : List ℕ → List ℕ → Observations
   o weights struck = observations_at c.args.ticks.now weights c.args.variances.now struck
 
-pub returns-in-Refuses : goal.returns-in-Refuses
-returns-in-Refuses c weights struck =
-    let start = (goal.at.returns-in-Refuses c).Start in
-    projects_refused (o start weights struck) (s start) c.args.year c.check_passing-checked.ensures c.in-Refuses.is
+pub returns-in_err-check_passing : goal.returns-in_err-check_passing
+returns-in_err-check_passing c weights struck =
+    let start = (goal.at.returns-in_err-check_passing c).Start in
+    let refusal = c.in_err-check_passing.field-0.0 in
+    let handed : c.from_residual.result ≡ Err refusal = grind arith in
+    rw handed (projects_refused (o start weights struck) (s start) c.args.year refusal c.in_err-check_passing.ensures)
 
 -- a file is open, and the mean that is held passes
-module _ (c : In_default) where
-  open_file : Fits (s c.before.before)
-  open_file = c.check_passing-checked.ensures.fits c.in_default.is
+module _ (c : In_ok-check_passing) where
+  open_file : Fits (s c.before.before.before)
+  open_file = c.in_ok-check_passing.ensures.0
 
-  passing : held_passes (s c.before.before) ≡ true
-  passing = c.check_passing-checked.ensures.passing c.in_default.is
+  passing : held_passes (s c.before.before.before) ≡ true
+  passing = c.in_ok-check_passing.ensures.1
 
 pub returns-then-year-lt1 : goal.returns-then-year-lt1
 returns-then-year-lt1 c weights struck =
-    let in_default = (goal.at.returns-then-year-lt1 c).In_default in
-    projects_before (o (goal.at.returns-then-year-lt1 c).Start weights struck) _ _ (open_file in_default) (passing in_default) c.if-year-lt1.true
+    let in_ok = (goal.at.returns-then-year-lt1 c).In_ok-check_passing in
+    rw c.at.ensures (projects_before (o (goal.at.returns-then-year-lt1 c).Start weights struck) _ _ (open_file in_ok) (passing in_ok) c.if-year-lt1.true)
 
 pub returns-then-last-year : goal.returns-then-last-year
 returns-then-last-year c weights struck =
-    let in_default = (goal.at.returns-then-last-year c).In_default in
-    projects_behind (o (goal.at.returns-then-last-year c).Start weights struck) _ _ (open_file in_default) (passing in_default) c.if-last-year.true
+    let in_ok = (goal.at.returns-then-last-year c).In_ok-check_passing in
+    rw c.at-then-last-year.ensures (projects_behind (o (goal.at.returns-then-last-year c).Start weights struck) _ _ (open_file in_ok) (passing in_ok) c.if-last-year.true)
 
-pub central_ultimate-found-requires : goal.central_ultimate-found-requires
-central_ultimate-found-requires c =
-    let in_default = (goal.at.central_ultimate-found-requires c).In_default in
+pub central_ultimate-requires : goal.central_ultimate-requires
+central_ultimate-requires c =
+    let in_ok = (goal.at.central_ultimate-requires c).In_ok-check_passing in
     record {
-      few = (frame (open_file in_default)).years;
+      few = (frame (open_file in_ok)).years;
       from = omega (arith, c.if-year-lt1.false);
       to = omega (arith, c.if-last-year.false);
-      small = (open_file in_default).inside.small;
+      small = (open_file in_ok).inside.small;
     }
 
 pub returns : goal.returns
 unfolding figures_of
 returns c weights struck =
-    let in_default = (goal.at.returns c).In_default in
-    projects_central (o (goal.at.returns c).Start weights struck) _ _ (open_file in_default) (passing in_default)
-    (omega (arith, c.if-year-lt1.false)) (omega (arith, c.if-last-year.false)) (c.central_ultimate-found.ensures.is weights struck)
+    let in_ok = (goal.at.returns c).In_ok-check_passing in
+    projects_central (o (goal.at.returns c).Start weights struck) _ _ (open_file in_ok) (passing in_ok)
+    (omega (arith, c.if-year-lt1.false)) (omega (arith, c.if-last-year.false)) (c.central_ultimate.ensures.is weights struck)

@@ -16,7 +16,7 @@ use Rattle.projecting.proofs.central.part_sum.Goals as goal
 use Rattle.projecting.proofs.central.part_sum.Goals.{In-loop-m}
 
 pub loop-m-init : goal.loop-m-init
-loop-m-init c = (omega arith, sym (sum_zero _))
+loop-m-init c = sym (sum_zero _)
 
 -- the next part, as it is read
 module _ (c : In-loop-m) where
@@ -37,7 +37,7 @@ module _ (c : In-loop-m) where
 
   next : to_z w64 c.loop-m.total-bits +ℤ stored (part mean (first + m)) ≡ parts_from mean first (m + 1)
   next =
-      ap₂ ◌+ℤ◌ c.loop-m.invariant.1 (read (part mean (first + m)) (omega (arith, c.requires.small m more)))
+      ap₂ ◌+ℤ◌ c.loop-m.invariant (read (part mean (first + m)) (omega (arith, c.requires.small m more)))
       ∙ sym (sum_next m (λ i. part mean (first + i)))
 
   next_small : nat_abs (parts_from mean first (m + 1)) < 2 ^ 63
@@ -57,20 +57,14 @@ overflow_add-total-in-loop-m c =
     let in_loop_m = (goal.at.overflow_add-total-in-loop-m c).In-loop-m in
     fits (next in_loop_m) (next_small in_loop_m)
 
-pub overflow_add-m : goal.overflow_add-m
-overflow_add-m c = omega (arith, inside (goal.at.overflow_add-m c).In-loop-m)
-
-pub loop-m-smaller : goal.loop-m-smaller
-loop-m-smaller c = omega (arith, more (goal.at.loop-m-smaller c).In-loop-m)
-
 pub loop-m-preserved : goal.loop-m-preserved
 loop-m-preserved c =
     let in_loop_m = (goal.at.loop-m-preserved c).In-loop-m in
-    (omega (arith, more in_loop_m), kept w64 (next in_loop_m) (next_small in_loop_m))
+    kept w64 (next in_loop_m) (next_small in_loop_m)
 
 pub returns : goal.returns
 returns c =
     let l = c.loop-m in
     let a = c.args in
-    let all : l.m ≡ a.count = omega (arith, l.invariant.0, c.loop-m-test.false) in
-    record { is = l.invariant.1 ∙ ap (parts_from a.mean.now a.first) all }
+    let all : l.m ≡ a.count = omega (arith, l.auto.m-end, c.loop-m-test.false) in
+    record { is = l.invariant ∙ ap (parts_from a.mean.now a.first) all }

@@ -9,7 +9,7 @@ use Rattle.projecting.proofs.central.variance_sum.Goals as goal
 use Rattle.projecting.proofs.central.variance_sum.Goals.{After-struct_known-1, In-loop-m}
 
 pub loop-m-init : goal.loop-m-init
-loop-m-init c = (omega arith, sym (total_zero _))
+loop-m-init c = sym (total_zero _)
 
 inside : (c : In-loop-m) → c.args.first + c.loop-m.m < 31
 inside c = omega (arith, c.loop-m-test.true, c.requires)
@@ -26,7 +26,7 @@ module _ (c : After-struct_known-1) where
 
   next : c.loop-m.total + c.kept_variance-next.result.0
       ≡ variances_from c.args.variances.now c.args.first (m + 1)
-  next = ap₂ ◌+◌ c.loop-m.invariant.1 c.kept_variance-next.ensures ∙ sym (total_next m _)
+  next = ap₂ ◌+◌ c.loop-m.invariant c.kept_variance-next.ensures ∙ sym (total_next m _)
 
   next_small : c.loop-m.total + c.kept_variance-next.result.0 < 2 ^ 64
   next_small =
@@ -35,18 +35,12 @@ module _ (c : After-struct_known-1) where
 pub overflow_add-total : goal.overflow_add-total
 overflow_add-total c = record { fits = next_small c }
 
-pub overflow_add-m : goal.overflow_add-m
-overflow_add-m c = omega (arith, inside (goal.at.overflow_add-m c).In-loop-m)
-
-pub loop-m-smaller : goal.loop-m-smaller
-loop-m-smaller c = omega (arith, c.loop-m-test.true)
-
 pub loop-m-preserved : goal.loop-m-preserved
-loop-m-preserved c = (omega (arith, c.loop-m-test.true), next c)
+loop-m-preserved c = next c
 
 pub returns : goal.returns
 returns c =
     let l = c.loop-m in
     let a = c.args in
-    let all : l.m ≡ a.count = omega (arith, l.invariant.0, c.loop-m-test.false) in
-    record { is = l.invariant.1 ∙ ap (variances_from a.variances.now a.first) all }
+    let all : l.m ≡ a.count = omega (arith, l.auto.m-end, c.loop-m-test.false) in
+    record { is = l.invariant ∙ ap (variances_from a.variances.now a.first) all }
