@@ -15,27 +15,26 @@ use Rattle.projecting.proofs.ProjectLaws.{projects_refused, projects_before, pro
 use Rattle.projecting.proofs.ultimate_lent.Goals as goal
 use Rattle.projecting.proofs.ultimate_lent.Goals.{In_ok-check_passing, Start}
 
--- what is lent
-module _ (c : Start) where
-  abbrev s : Held
-  s = let a = c.args in held_at a.last a.closeness a.total a.own.now a.matrix.now a.right_hand.now a.mean.now
-
-  abbrev o : List ℕ → List ℕ → Observations
-  o weights struck = observations_at c.args.ticks.now weights c.args.variances.now struck
+-- what is observed, with whatever else a session keeps
+abbrev o : Start → List ℕ → List ℕ → Observations
+o c weights struck = observations_at c.args.ticks.now weights c.args.variances.now struck
 
 pub returns-in_err-check_passing : goal.returns-in_err-check_passing
 returns-in_err-check_passing c weights struck =
     let start = (goal.at.returns-in_err-check_passing c).Start in
     let refusal = c.in_err-check_passing.field-0.0 in
     let handed : c.from_residual.result ≡ Err refusal = grind arith in
-    rw handed (projects_refused (o start weights struck) (s start) c.args.year refusal c.in_err-check_passing.ensures)
+    rw handed (projects_refused (o start weights struck) _ _ refusal c.in_err-check_passing.ensures)
 
 -- a file is open, and the mean that is held passes
 module _ (c : In_ok-check_passing) where
-  open_file : Fits (s c.before.before.before)
+  abbrev s : Held
+  s = let a = c.args in held_at a.last a.closeness a.total a.own.now a.matrix.now a.right_hand.now a.mean.now
+
+  open_file : Fits s
   open_file = c.in_ok-check_passing.ensures.0
 
-  passing : held_passes (s c.before.before.before) ≡ true
+  passing : held_passes s ≡ true
   passing = c.in_ok-check_passing.ensures.1
 
 pub returns-then-year-lt1 : goal.returns-then-year-lt1

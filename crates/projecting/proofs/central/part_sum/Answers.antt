@@ -43,15 +43,6 @@ module _ (c : In-loop-m) where
   next_small : nat_abs (parts_from mean first (m + 1)) < 2 ^ 63
   next_small = omega (arith, parts_small c.requires (m + 1) (omega (arith, more)), more, c.requires.few)
 
-pub overflow_add-total : goal.overflow_add-total
-overflow_add-total c = omega (arith, inside c)
-
-pub offset_bounds-mean-first : goal.offset_bounds-mean-first
-offset_bounds-mean-first c = omega (arith, inside c)
-
-pub bounds-mean-first : goal.bounds-mean-first
-bounds-mean-first c = inside c
-
 pub overflow_add-total-in-loop-m : goal.overflow_add-total-in-loop-m
 overflow_add-total-in-loop-m c =
     let in_loop_m = (goal.at.overflow_add-total-in-loop-m c).In-loop-m in

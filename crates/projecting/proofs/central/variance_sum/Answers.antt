@@ -14,12 +14,6 @@ loop-m-init c = sym (total_zero _)
 inside : (c : In-loop-m) → c.args.first + c.loop-m.m < 31
 inside c = omega (arith, c.loop-m-test.true, c.requires)
 
-pub overflow_add-first : goal.overflow_add-first
-overflow_add-first c = omega (arith, inside c)
-
-pub kept_variance-next-requires : goal.kept_variance-next-requires
-kept_variance-next-requires c = inside c
-
 module _ (c : After-struct_known-1) where
   abbrev m : ℕ
   m = c.loop-m.m
