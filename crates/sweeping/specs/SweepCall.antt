@@ -1,5 +1,5 @@
 -- The sweeps of a call on a session that fits are the machine's.
-use Rattle.std.specs.Prelude.{ℕ, ◌≤◌, ◌<◌, ◌≡◌, refl, Bool, true, false, List, ℤ}
+use Rattle.std.specs.Prelude.{ℕ, ◌≤◌, ◌<◌, ◌≡◌, refl, Bool, true, false, List, ℤ, Ok, Err}
 use Rattle.std.proofs.Common.{sym, ap, subst, ◌∙◌}
 use Rattle.definitions.specs.Words.{part, within}
 use Rattle.definitions.specs.Matrix as D
@@ -7,6 +7,7 @@ use Rattle.definitions.specs.Matrix.{passes}
 use Rattle.definitions.specs.Sweep.{sweeps, sweep_limit}
 use Rattle.laws.proofs.ReachedStates.{sweeps_total}
 use Rattle.layout.specs.CheckLaws.{within_yes}
+use Rattle.layout.specs.declared.refusals.Reason.TheVariants.{Spent}
 use Rattle.chain.specs.Arrays.{figures_of, mean_of}
 use Rattle.chain.specs.Judge.{Passes}
 use Rattle.steps.specs.declared.Working.{Working}
@@ -14,7 +15,7 @@ use Rattle.steps.specs.declared.sweep.Swept.{Swept}
 use Rattle.steps.specs.Sweeps.{Holds, SweptTo, passes_is}
 use Rattle.holding.specs.State.{Held, Fits}
 use Rattle.holding.proofs.StateLaws.{state_of_held}
-use Rattle.sweeping.specs.declared.SweepAnswer.TheVariants.{Settled, Going, Refused}
+use Rattle.sweeping.specs.declared.Progress.TheVariants.{Settled, Going}
 use Rattle.sweeping.specs.Sweeps.{Sweeps}
 use Rattle.sweeping.specs.SweepLaws.{sweeps_settled, sweeps_spent, sweeps_done, sweeps_going}
 
@@ -44,10 +45,10 @@ module _ (s : Held) (n : ℕ) where
         ap (λ m. passes F (part (mean_of s.figures.last m))) (sym h.mean)
         ∙ sym (passes_is s.figures w h.holds_mean tested)
 
-    pub settled : p ≡ true → Sweeps s n (Settled s.total) s
+    pub settled : p ≡ true → Sweeps s n (Ok (Settled s.total)) s
     settled e = sweeps_settled s n h.fits number_inside (held_passes_lem ∙ e)
 
-    pub spent : p ≡ false → sweep_limit ≤ s.total → Sweeps s n (Refused 23 0) s
+    pub spent : p ≡ false → sweep_limit ≤ s.total → Sweeps s n (Err (record { reason = Spent; place = 0 })) s
     spent e most = sweeps_spent s n h.fits number_inside (held_passes_lem ∙ e) most
 
     -- the sweeps of a mean that does not pass, while some are left
@@ -69,12 +70,12 @@ module _ (s : Held) (n : ℕ) where
         few = subst (λ t. t ≤ sweep_limit) (ap (λ x. x.swept) end) (sweeps_total F n μ s.total h.fits.few);
       }
 
-      pub done : r.passes ≡ true → Sweeps s n (Settled r.total) after
+      pub done : r.passes ≡ true → Sweeps s n (Ok (Settled r.total)) after
       done passing =
           sweeps_done s n h.fits number_inside (held_passes_lem ∙ e) more after ν (state_of_held after after_fits) end
           (sym swept.passing ∙ passing)
 
-      pub still_going : r.passes ≡ false → Sweeps s n (Going r.total) after
+      pub still_going : r.passes ≡ false → Sweeps s n (Ok (Going r.total)) after
       still_going failing =
           sweeps_going s n h.fits number_inside (held_passes_lem ∙ e) more after ν (state_of_held after after_fits) end
           (sym swept.passing ∙ failing)

@@ -1,7 +1,7 @@
 -- The machine's outcome of a sweep, case by case: what the call shows of its answer. Each carries both halves of demand 3.
-use Rattle.std.specs.Prelude.{ℕ, ◌≤◌, ◌<◌, ◌≡◌, Bool, false, not, cond, leb, ℤ}
+use Rattle.std.specs.Prelude.{ℕ, ◌≤◌, ◌<◌, ◌≡◌, Result, Ok, Err, Bool, false, not, cond, leb, ℤ}
 use Rattle.std.proofs.Math.Path.{refl, ap}
-use Rattle.std.proofs.Common.{sym, ◌∙◌, arith}
+use Rattle.std.proofs.Common.{sym, ◌∙◌}
 use Rattle.std.proofs.Math.Bool.{true}
 use Rattle.std.proofs.lemmas.Bool.{false≢true}
 use mathlib.Core.List.{List}
@@ -12,25 +12,25 @@ use Rattle.definitions.specs.Matrix.{passes}
 use Rattle.definitions.specs.Strikes.{figures_left}
 use Rattle.definitions.specs.Sweep.{Swept, sweeps, sweep_limit}
 use Rattle.definitions.specs.Machine.{Answer, settled, going, refused, State, holds, Outcome, answers, sweep_call, swept_to}
+use Rattle.layout.specs.declared.refusals.Reason.TheVariants as reason
+use Rattle.layout.specs.declared.refusals.Reason.TheVariants.{NothingOpen, Spent}
+use Rattle.layout.specs.declared.refusals.Refusal.{Refusal}
 use Rattle.chain.specs.Arrays.{figures_of, mean_of}
 use Rattle.holding.specs.State.{Held, Fits, state_held, state_of}
 use Rattle.holding.proofs.StateLaws.{state_of_held, state_of_empty}
 use Rattle.holding.proofs.Worth.{worth, rounded}
-use Rattle.sweeping.specs.declared.SweepAnswer.{SweepAnswer}
-use Rattle.sweeping.specs.declared.SweepAnswer.TheVariants.{Settled, Going, Refused}
+use Rattle.sweeping.specs.declared.Progress.{Progress}
+use Rattle.sweeping.specs.declared.Progress.TheVariants.{Settled, Going}
 use Rattle.sweeping.specs.Sweeps.{of_sweep, sweeps_to, Sweeps}
 
 refused_settled : {number place total : ℕ} → refused number place ≡ settled total → ⊥
-refused_settled e = let z : ◌≡◌ {A = ℕ} 0 1 = cc in omega arith
+refused_settled e = cc
 
 going_settled : {total after : ℕ} → going total ≡ settled after → ⊥
-going_settled e = let z : ◌≡◌ {A = ℕ} 0 1 = cc in omega arith
+going_settled e = cc
 
-settled_refused : {number place total : ℕ} → ◌≡◌ {A = SweepAnswer} (Settled total) (Refused number place) → ⊥
-settled_refused e = let z : ◌≡◌ {A = ℕ} 0 1 = cc in omega arith
-
-going_refused : {number place total : ℕ} → ◌≡◌ {A = SweepAnswer} (Going total) (Refused number place) → ⊥
-going_refused e = let z : ◌≡◌ {A = ℕ} 0 1 = cc in omega arith
+run_refused : {p : Progress} {r : Refusal} → ◌≡◌ {A = Result Progress Refusal} (Ok p) (Err r) → ⊥
+run_refused e = cc
 
 module _ {F : D.Figures} {μ ν : List ℤ} {total after : ℕ} (e : ◌≡◌ {A = State D.Figures} (holds F μ total) (holds F ν after)) where
   same_mean : μ ≡ ν
@@ -42,10 +42,10 @@ module _ {F : D.Figures} {μ ν : List ℤ} {total after : ℕ} (e : ◌≡◌ {
 settled_same : {total after : ℕ} → settled total ≡ settled after → total ≡ after
 settled_same e = cc
 
-of_settled : (a : SweepAnswer) {after : ℕ} → of_sweep a ≡ settled after → a ≡ Settled after
-of_settled (Settled total) e = ap Settled (settled_same e)
-of_settled (Going total) e = absurd (going_settled e)
-of_settled (Refused number place) e = absurd (refused_settled e)
+of_settled : (a : Result Progress Refusal) {after : ℕ} → of_sweep a ≡ settled after → a ≡ Ok (Settled after)
+of_settled (Ok (Settled total)) e = ap (λ n. Ok (Settled n)) (settled_same e)
+of_settled (Ok (Going total)) e = absurd (going_settled e)
+of_settled (Err r) e = absurd (refused_settled e)
 
 -- the mean that is held from now on decides the answer
 module _ (F : D.Figures) (μ ν : List ℤ) (total n after : ℕ) where
@@ -100,8 +100,8 @@ module _ (F : D.Figures) (μ ν : List ℤ) (total n after : ℕ) where
       by_cases false false e st = rw (held_now st) (ap settled (same_total st))
 
 module _ (s : Held) (n : ℕ) where
-  sweeps_as : (r : SweepAnswer) (t : Held) → of_sweep r ≡ (sweeps_to (state_of s) n).answer → state_of t ≡ (sweeps_to (state_of s) n).state
-      → ((number place : ℕ) → r ≡ Refused number place → t ≡ s)
+  sweeps_as : (r : Result Progress Refusal) (t : Held) → of_sweep r ≡ (sweeps_to (state_of s) n).answer → state_of t ≡ (sweeps_to (state_of s) n).state
+      → ((e : Refusal) → r ≡ Err e → t ≡ s)
       → Sweeps s n r t
   sweeps_as r t a st same = record {
     answer = a;
@@ -118,9 +118,9 @@ module _ (s : Held) (n : ℕ) where
         (ap (λ x. (sweeps_to x n).state) (sym before.state) ∙ sym st ∙ then.state) (rounded before ν near));
   }
 
-  pub sweeps_closed : ¬ Fits s → Sweeps s n (Refused 21 0) s
+  pub sweeps_closed : ¬ Fits s → Sweeps s n (Err (record { reason = NothingOpen; place = 0 })) s
   unfolding sweep_call
-  sweeps_closed h = let e = state_of_empty s h in sweeps_as _ _ (rw e refl) (rw e refl) (λ _ _ _. refl)
+  sweeps_closed h = let e = state_of_empty s h in sweeps_as _ _ (rw e refl) (rw e refl) (λ _ _. refl)
 
   module _ (h : Fits s) where
     abbrev F : D.Figures
@@ -132,35 +132,35 @@ module _ (s : Held) (n : ℕ) where
     is_open : state_of s ≡ state_held s
     is_open = state_of_held s h
 
-    pub sweeps_outside : within 1 sweep_limit n ≡ false → Sweeps s n (Refused 12 0) s
+    pub sweeps_outside : within 1 sweep_limit n ≡ false → Sweeps s n (Err (record { reason = reason.Sweeps; place = 0 })) s
     unfolding sweep_call
-    sweeps_outside w = sweeps_as _ _ (rw (is_open, w) refl) (rw (is_open, w) refl) (λ _ _ _. refl)
+    sweeps_outside w = sweeps_as _ _ (rw (is_open, w) refl) (rw (is_open, w) refl) (λ _ _. refl)
 
     module _ (w : within 1 sweep_limit n ≡ true) where
-      pub sweeps_settled : passes F (part μ) ≡ true → Sweeps s n (Settled s.total) s
+      pub sweeps_settled : passes F (part μ) ≡ true → Sweeps s n (Ok (Settled s.total)) s
       unfolding sweep_call
-      sweeps_settled p = sweeps_as _ _ (rw (is_open, w, p) refl) (rw (is_open, w, p) refl) (λ _ _ e. absurd (settled_refused e))
+      sweeps_settled p = sweeps_as _ _ (rw (is_open, w, p) refl) (rw (is_open, w, p) refl) (λ _ e. absurd (run_refused e))
 
       module _ (p : passes F (part μ) ≡ false) where
-        pub sweeps_spent : sweep_limit ≤ s.total → Sweeps s n (Refused 23 0) s
+        pub sweeps_spent : sweep_limit ≤ s.total → Sweeps s n (Err (record { reason = Spent; place = 0 })) s
         unfolding sweep_call
         sweeps_spent most =
             let none_left = le-leb sweep_limit s.total most in
-            sweeps_as _ _ (rw (is_open, w, p, none_left) refl) (rw (is_open, w, p, none_left) refl) (λ _ _ _. refl)
+            sweeps_as _ _ (rw (is_open, w, p, none_left) refl) (rw (is_open, w, p, none_left) refl) (λ _ _. refl)
 
         module _ (more : s.total < sweep_limit) (t : Held) (ν : List ℤ) (after : state_of t ≡ holds F ν t.total)
             (end : sweeps F n μ s.total ≡ record { mean = ν; swept = t.total }) where
           some_left : leb sweep_limit s.total ≡ false
           some_left = lt-leb sweep_limit s.total more
 
-          pub sweeps_done : passes F (part ν) ≡ true → Sweeps s n (Settled t.total) t
+          pub sweeps_done : passes F (part ν) ≡ true → Sweeps s n (Ok (Settled t.total)) t
           unfolding sweep_call
           sweeps_done q =
               sweeps_as _ _ (rw (is_open, w, p, some_left, end, q) refl) (rw (is_open, w, p, some_left, end, after) refl)
-              (λ _ _ e. absurd (settled_refused e))
+              (λ _ e. absurd (run_refused e))
 
-          pub sweeps_going : passes F (part ν) ≡ false → Sweeps s n (Going t.total) t
+          pub sweeps_going : passes F (part ν) ≡ false → Sweeps s n (Ok (Going t.total)) t
           unfolding sweep_call
           sweeps_going q =
               sweeps_as _ _ (rw (is_open, w, p, some_left, end, q) refl) (rw (is_open, w, p, some_left, end, after) refl)
-              (λ _ _ e. absurd (going_refused e))
+              (λ _ e. absurd (run_refused e))

@@ -8,16 +8,17 @@ ghost use Rattle.sweeping.specs.Sweeps.{Sweeps};
 use chain::judge::passes;
 use chain::residues::residues;
 use holding::bounds::frame_fits;
+use layout::refusals::{Reason, Refusal};
 use steps::Working;
 use steps::sweep::sweeps;
 
-// With how many sweeps were run since the file was opened.
-#[derive(Drop)]
-pub enum SweepAnswer {
+const SWEEP_LIMIT: u64 = 4096;
+
+// With how many sweeps were run since the file was opened or the last step was struck.
+#[derive(Clone, Copy, Debug, PartialEq, Eq)]
+pub enum Progress {
     Settled(u64),
     Going(u64),
-    // The specification's number and place.
-    Refused(u64, usize),
 }
 
 // 21, 12, settled, 23.
@@ -30,7 +31,7 @@ pub fn sweep_lent<'a>(
     mean: &'a mut [i64; 31],
     total: &'a mut u64,
     n: u64,
-) -> SweepAnswer
+) -> Result<Progress, Refusal>
     ensures { Sweeps
         (held_at last closeness total.old
         own.now matrix.now right_hand.now mean.old)
@@ -41,19 +42,14 @@ pub fn sweep_lent<'a>(
     let before = *total;
     let held = *mean;
     if !frame_fits(last, closeness, before, own, matrix, right_hand, &held) {
-        return SweepAnswer::Refused(21, 0);
+        return Err(Reason::NothingOpen.at(0));
     }
-    let tested = residues(last, matrix, right_hand, &held);
-    if !tested.fit {
-        return SweepAnswer::Refused(21, 0);
+    let Some(found) = residues(last, matrix, right_hand, &held) else {
+        return Err(Reason::NothingOpen.at(0));
+    };
+    if n < 1 || SWEEP_LIMIT < n {
+        return Err(Reason::Sweeps.at(0));
     }
-    if n < 1 {
-        return SweepAnswer::Refused(12, 0);
-    }
-    if 4096 < n {
-        return SweepAnswer::Refused(12, 0);
-    }
-    let found = tested.residues;
     let working = Working {
         mean: held,
         residues: found,
@@ -74,7 +70,7 @@ fn sweep_on<'a>(
     total: &'a mut u64,
     working: Working,
     n: u64,
-) -> SweepAnswer
+) -> Result<Progress, Refusal>
     requires { OpenSweep (held_at last closeness total.old own.now matrix.now right_hand.now mean.old) working n }
     ensures { Sweeps
         (held_at last closeness total.old
@@ -85,18 +81,17 @@ fn sweep_on<'a>(
 {
     let before = *total;
     if passes(last, closeness, own, &working.residues) {
-        return SweepAnswer::Settled(before);
+        return Ok(Progress::Settled(before));
     }
-    if 4096 <= before {
-        return SweepAnswer::Refused(23, 0);
+    if SWEEP_LIMIT <= before {
+        return Err(Reason::Spent.at(0));
     }
     let swept = sweeps(last, closeness, own, matrix, right_hand, working, before, n);
-    let after = swept.working;
-    let settled = after.mean;
+    let settled = swept.working.mean;
     *mean = settled;
     *total = swept.total;
     if swept.passes {
-        return SweepAnswer::Settled(swept.total);
+        return Ok(Progress::Settled(swept.total));
     }
-    SweepAnswer::Going(swept.total)
+    Ok(Progress::Going(swept.total))
 }

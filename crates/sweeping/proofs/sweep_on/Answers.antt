@@ -20,9 +20,9 @@ pub returns-then-passes : goal.returns-then-passes
 returns-then-passes c =
     settled (S (goal.at.returns-then-passes c).Start) c.args.n c.requires c.passes.ensures c.if-passes.true
 
-pub returns-then-before-ge4096 : goal.returns-then-before-ge4096
-returns-then-before-ge4096 c =
-    spent (S (goal.at.returns-then-before-ge4096 c).Start) c.args.n c.requires c.passes.ensures c.if-passes.false (omega (arith, c.if-before-ge4096.true))
+pub returns-then-before-ge-SWEEP_LIMIT : goal.returns-then-before-ge-SWEEP_LIMIT
+returns-then-before-ge-SWEEP_LIMIT c =
+    rw c.at.ensures (spent (S (goal.at.returns-then-before-ge-SWEEP_LIMIT c).Start) c.args.n c.requires c.passes.ensures c.if-passes.false (omega (arith, c.if-before-ge-SWEEP_LIMIT.true)))
 
 pub sweeps-swept-requires : goal.sweeps-swept-requires
 sweeps-swept-requires c = let asked = c.requires in record { fitting = asked.fits.fitting; holds = asked.holds_mean }
@@ -30,7 +30,7 @@ sweeps-swept-requires c = let asked = c.requires in record { fitting = asked.fit
 -- sweeps are run
 module _ (c : After-sweeps-swept) where
   more : (S c.before.before.before.before.before.before.before).total < sweep_limit
-  more = omega (arith, c.if-before-ge4096.false)
+  more = omega (arith, c.if-before-ge-SWEEP_LIMIT.false)
 
 pub returns-then-swept : goal.returns-then-swept
 returns-then-swept c =
