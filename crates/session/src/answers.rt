@@ -1,28 +1,14 @@
 // What the calls answer.
 use crate::Session;
-pub use judging::JudgeAnswer;
-pub use opening::OpenAnswer;
-pub use projecting::{Ultimate, UltimateAnswer};
-pub use showing::{FiguresAnswer, Showing};
-pub use striking::StrikeAnswer;
-pub use sweeping::SweepAnswer;
-pub use writing::WriteAnswer;
+pub use chain::arrays::Figures;
+pub use chain::judge::Judgement;
+pub use layout::refusals::{Reason, Refusal};
+pub use projecting::Ultimate;
+pub use sweeping::Progress;
 
-// An answer, with the session afterwards.
+// An answer, with the session afterwards: where the call is refused, the one that it took.
 #[derive(Drop)]
-pub struct Opening {
-    pub answer: OpenAnswer,
-    pub session: Session,
-}
-
-#[derive(Drop)]
-pub struct Sweeping {
-    pub answer: SweepAnswer,
-    pub session: Session,
-}
-
-#[derive(Drop)]
-pub struct Striking {
-    pub answer: StrikeAnswer,
+pub struct Outcome<T> {
+    pub answer: Result<T, Refusal>,
     pub session: Session,
 }

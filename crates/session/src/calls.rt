@@ -14,9 +14,7 @@ ghost use Rattle.weighing.specs.Weighs.{Weighs};
 ghost use Rattle.session.specs.Value.{held_by};
 
 use crate::Session;
-use crate::answers::{
-    JudgeAnswer, Opening, Showing, Striking, Sweeping, UltimateAnswer, WriteAnswer,
-};
+use crate::answers::{Judgement, Outcome, Progress, Refusal, Ultimate};
 use crate::lent::{
     figures_lent, judge_lent, open_lent, page_lent, read_lent, residues_lent, strike_lent,
     sweep_lent, ultimate_lent,
@@ -26,7 +24,7 @@ use chain::arrays::Figures;
 use observations::Observations;
 
 // 22, then 1 to 10.
-pub fn open(s: Session, file: &[u8]) -> Opening
+pub fn open(s: Session, file: &[u8]) -> Outcome<()>
     ensures { Opens (held_by s) s.observations file.now result.answer (held_by result.session) result.session.observations }
 {
     let mut held = [s.figures.last as u64, s.figures.closeness, s.total];
@@ -50,8 +48,8 @@ pub fn open(s: Session, file: &[u8]) -> Opening
         &mut struck,
         file,
     );
-    Opening {
-        answer: answer,
+    Outcome {
+        answer,
         session: Session {
             observations: Observations {
                 ticks: ticks,
@@ -73,7 +71,7 @@ pub fn open(s: Session, file: &[u8]) -> Opening
 }
 
 // 21, then 1, 2, 4 and 11.
-pub fn judge(s: Session, lent: &[u8]) -> JudgeAnswer
+pub fn judge(s: Session, lent: &[u8]) -> Result<Judgement, Refusal>
     ensures { Judges (held_by s) lent.now result }
 {
     judge_lent(
@@ -89,7 +87,7 @@ pub fn judge(s: Session, lent: &[u8]) -> JudgeAnswer
 }
 
 // 21, 12, settled, 23.
-pub fn sweep(s: Session, n: u64) -> Sweeping
+pub fn sweep(s: Session, n: u64) -> Outcome<Progress>
     ensures sweeps { Sweeps (held_by s) n result.answer (held_by result.session) }
     ensures observations_value { result.session.observations ≡ s.observations }
 {
@@ -113,14 +111,11 @@ pub fn sweep(s: Session, n: u64) -> Sweeping
         mean: mean,
         total: total,
     };
-    Sweeping {
-        answer: answer,
-        session: session,
-    }
+    Outcome { answer, session }
 }
 
 // 21, 24, 13. The record at the front of the buffer; the bytes behind it stay.
-pub fn read(s: Session, buffer: &mut [u8]) -> WriteAnswer
+pub fn read(s: Session, buffer: &mut [u8]) -> Result<(), Refusal>
     ensures { Reads (held_by s) buffer.old result buffer.new }
 {
     read_lent(
@@ -136,7 +131,7 @@ pub fn read(s: Session, buffer: &mut [u8]) -> WriteAnswer
 }
 
 // 21, 24, 13. The page at the front of the buffer; the bytes behind it stay.
-pub fn page(s: Session, buffer: &mut [u8]) -> WriteAnswer
+pub fn page(s: Session, buffer: &mut [u8]) -> Result<(), Refusal>
     ensures { Pages (held_by s) buffer.old result buffer.new }
 {
     page_lent(
@@ -152,7 +147,7 @@ pub fn page(s: Session, buffer: &mut [u8]) -> WriteAnswer
 }
 
 // 21, 24, 25. The central ultimate of an accident year.
-pub fn ultimate(s: Session, year: u64) -> UltimateAnswer
+pub fn ultimate(s: Session, year: u64) -> Result<Ultimate, Refusal>
     ensures { Projects s.observations (held_by s) year result }
 {
     ultimate_lent(
@@ -170,7 +165,7 @@ pub fn ultimate(s: Session, year: u64) -> UltimateAnswer
 }
 
 // 21, then 14, 26, 27. The step of an accident year and a column is out of the paid (channel 0) or the incurred steps (1).
-pub fn strike(s: Session, channel: u64, year: u64, column: u64) -> Striking
+pub fn strike(s: Session, channel: u64, year: u64, column: u64) -> Outcome<()>
     ensures { Strikes (step channel year column) (held_by s) s.observations result.answer
         (held_by result.session) result.session.observations }
 {
@@ -196,8 +191,8 @@ pub fn strike(s: Session, channel: u64, year: u64, column: u64) -> Striking
         year,
         column,
     );
-    Striking {
-        answer: answer,
+    Outcome {
+        answer,
         session: Session {
             observations: Observations {
                 ticks: ticks,
@@ -219,7 +214,7 @@ pub fn strike(s: Session, channel: u64, year: u64, column: u64) -> Striking
 }
 
 // 21, then 1, 2, 4, 11, then 13. The residues of the record's mean at the front of the buffer; the bytes behind them stay.
-pub fn residues<'a>(s: Session, lent: &'a [u8], buffer: &'a mut [u8]) -> WriteAnswer
+pub fn residues<'a>(s: Session, lent: &'a [u8], buffer: &'a mut [u8]) -> Result<(), Refusal>
     ensures { Weighs s.observations (held_by s) lent.now buffer.old result buffer.new }
 {
     residues_lent(
@@ -239,7 +234,7 @@ pub fn residues<'a>(s: Session, lent: &'a [u8], buffer: &'a mut [u8]) -> WriteAn
 }
 
 // 21. The figures that judge and sweep go by, the matrix whole.
-pub fn figures(s: Session) -> Showing
+pub fn figures(s: Session) -> Result<Figures, Refusal>
     ensures { Shows (held_by s) result }
 {
     figures_lent(

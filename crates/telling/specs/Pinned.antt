@@ -1,13 +1,13 @@
 -- What C is told, case by case and of every number, as include/desk.h has it.
-use Rattle.std.specs.Prelude.{ℕ, ◌≡◌, List, ℤ, pos}
+use Rattle.std.specs.Prelude.{ℕ, ◌≡◌, List, ℤ, pos, replicate, Ok, Err}
 use Rattle.integers.specs.Summation.{total}
 use Rattle.definitions.specs.Layout.{row_at, row_length}
 use Rattle.definitions.specs.Refusals.{clear, refuses}
 use Rattle.definitions.specs.Matrix.{passed, fails}
 use Rattle.definitions.specs.Machine.{refused, opened, judged, settled, going, written, ultimate_is, struck_out}
-use Rattle.chain.specs.declared.arrays.Figures.{Figures}
+use Rattle.layout.specs.declared.refusals.Refusal.{Refusal as Refused}
+use Rattle.layout.specs.Refusals.{number_of}
 use Rattle.chain.specs.Arrays.{figures_at}
-use Rattle.showing.specs.declared.FiguresAnswer.TheVariants.{Shown, Refused}
 use Rattle.telling.specs.declared.Refusal.{Refusal}
 use Rattle.telling.specs.Told.{refusal_told, judge_told, sweep_told, ultimate_told, told_of_row, system_told}
 
@@ -39,7 +39,15 @@ pub record Pinned : Type 0 where
   pub refused_row : (J channel year number place : ℕ)
       → told_of_row J channel year (refuses number place) ≡ record { refusal = refusal number place; start = 0; length = 0 }
   pub shown_system : (J e : ℕ) (D : List ℕ) (A b : List ℤ)
-      → system_told (record { answer = Shown; figures = figures_at J e D A b })
+      → system_told (Ok (figures_at J e D A b))
       ≡ record { refusal = refusal 0 0; last = J; closeness = e; own = D; matrix = A; right_hand = b }
-  pub refused_system : (number place : ℕ) (F : Figures)
-      → (system_told (record { answer = Refused number place; figures = F })).refusal ≡ refusal number place
+  -- with zeros in place of the figures
+  pub refused_system : (r : Refused) → system_told (Err r)
+      ≡ record {
+        refusal = refusal (number_of r.reason) r.place;
+        last = 0;
+        closeness = 0;
+        own = replicate 31 0;
+        matrix = replicate 961 (pos 0);
+        right_hand = replicate 31 (pos 0);
+      }

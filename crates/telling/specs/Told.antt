@@ -1,14 +1,13 @@
 -- What C is told of an answer of the machine, in numbers; whatever an answer does not have is 0.
-use Rattle.std.specs.Prelude.{ℕ, pos}
+use Rattle.std.specs.Prelude.{ℕ, pos, replicate, Result, Ok, Err}
 use Rattle.definitions.specs.Layout.{row_at, row_length}
 use Rattle.definitions.specs.Refusals.{Check, clear, refuses}
 use Rattle.definitions.specs.Matrix.{passed, fails}
 use Rattle.definitions.specs.Ultimate.{Ultimate}
 use Rattle.definitions.specs.Machine.{Answer, refused, opened, judged, settled, going, written, ultimate_is, struck_out, part_shown, row_is_shown, closed}
+use Rattle.layout.specs.declared.refusals.Refusal.{Refusal as Refused}
+use Rattle.layout.specs.Refusals.{refused_as}
 use Rattle.chain.specs.declared.arrays.Figures.{Figures}
-use Rattle.showing.specs.declared.FiguresAnswer.{FiguresAnswer}
-use Rattle.showing.specs.declared.FiguresAnswer.TheVariants.{Shown, Refused}
-use Rattle.showing.specs.declared.Showing.{Showing}
 use Rattle.telling.specs.declared.Refusal.{Refusal}
 use Rattle.telling.specs.declared.Judged.{Judged}
 use Rattle.telling.specs.declared.Swept.{Swept}
@@ -73,10 +72,6 @@ told_of_row J channel year clear = record { refusal = none; start = row_at J cha
 told_of_row J channel year (refuses number place) = record { refusal = record { number = number; place = place }; start = 0; length = 0 }
 
 -- the figures of a session, or why they are not shown
-abbrev pub figures_told : FiguresAnswer → Refusal
-figures_told Shown = none
-figures_told (Refused number place) = record { number = number; place = place }
-
 abbrev pub system_of : Refusal → Figures → System
 system_of refusal F = record {
   refusal = refusal;
@@ -87,5 +82,9 @@ system_of refusal F = record {
   right_hand = F.right_hand;
 }
 
-abbrev pub system_told : Showing → System
-system_told shown = system_of (figures_told shown.answer) shown.figures
+abbrev nothing : Figures
+nothing = record { last = 0; closeness = 0; own = replicate 31 0; matrix = replicate 961 (pos 0); right_hand = replicate 31 (pos 0) }
+
+abbrev pub system_told : Result Figures Refused → System
+system_told (Ok F) = system_of none F
+system_told (Err r) = system_of (refusal_told (refused_as r)) nothing

@@ -2,24 +2,23 @@
 #![tactic(auto)]
 
 ghost use Rattle.std.specs.Prelude.{◌≡◌};
+ghost use Rattle.layout.specs.Refusals.{number_of};
 ghost use Rattle.opening.specs.Opens.{of_open};
 ghost use Rattle.judging.specs.Judges.{of_judge};
 ghost use Rattle.sweeping.specs.Sweeps.{of_sweep};
 ghost use Rattle.writing.specs.Writes.{of_write};
 ghost use Rattle.projecting.specs.Projects.{of_project};
 ghost use Rattle.striking.specs.Strikes.{of_strike};
-ghost use Rattle.telling.specs.Told.{refusal_told, judge_told, sweep_told, figures_told, system_told, ultimate_told};
+ghost use Rattle.telling.specs.Told.{refusal_told, judge_told, sweep_told, system_of, system_told, ultimate_told};
 
-use judging::JudgeAnswer;
-use opening::OpenAnswer;
-use projecting::UltimateAnswer;
-use showing::{FiguresAnswer, Showing};
-use striking::StrikeAnswer;
-use sweeping::SweepAnswer;
-use writing::WriteAnswer;
+use chain::arrays::Figures;
+use chain::judge::Judgement;
+use layout::refusals;
+use projecting::Ultimate;
+use sweeping::Progress;
 
 #[repr(C)]
-#[derive(Drop)]
+#[derive(Clone, Copy)]
 pub struct Refusal {
     pub number: u64,
     pub place: u64,
@@ -27,7 +26,7 @@ pub struct Refusal {
 
 // Passed (1), or not (0) with the first part that fails.
 #[repr(C)]
-#[derive(Drop)]
+#[derive(Clone, Copy)]
 pub struct Judged {
     pub refusal: Refusal,
     pub passed: u64,
@@ -36,7 +35,7 @@ pub struct Judged {
 
 // Settled (1) or going (0), with the sweeps run since open or the last strike.
 #[repr(C)]
-#[derive(Drop)]
+#[derive(Clone, Copy)]
 pub struct Swept {
     pub refusal: Refusal,
     pub settled: u64,
@@ -45,7 +44,7 @@ pub struct Swept {
 
 // The row is `length` bytes of the file from `start` on; none where it is refused.
 #[repr(C)]
-#[derive(Drop)]
+#[derive(Clone, Copy)]
 pub struct RowShown {
     pub refusal: Refusal,
     pub start: u64,
@@ -54,7 +53,7 @@ pub struct RowShown {
 
 // A central ultimate in ticks: floor and remainder over the divisor.
 #[repr(C)]
-#[derive(Drop)]
+#[derive(Clone, Copy)]
 pub struct Projected {
     pub refusal: Refusal,
     pub floor: i64,
@@ -64,7 +63,7 @@ pub struct Projected {
 
 // The figures of the open file, in arrays of the largest size: row k, column l of the matrix at 31·k + l.
 #[repr(C)]
-#[derive(Drop)]
+#[derive(Clone, Copy)]
 pub struct System {
     pub refusal: Refusal,
     pub last: u64,
@@ -74,145 +73,121 @@ pub struct System {
     pub right_hand: [i64; 31],
 }
 
-pub fn refusal_of(number: u64, place: usize) -> Refusal
-    ensures { result ≡ record { number = number; place = place } }
-{
-    Refusal {
-        number: number,
-        place: place as u64,
+impl From<refusals::Refusal> for Refusal {
+    ghost from_gives = { λ r told. told ≡ record { number = number_of r.reason; place = r.place } };
+
+    fn from(r: refusals::Refusal) -> Refusal {
+        Refusal {
+            number: r.reason.number(),
+            place: r.place as u64,
+        }
     }
 }
 
-fn judged_as(number: u64, place: usize, passed: u64, part: usize) -> Judged
-    ensures { result ≡ record { refusal = record { number = number; place = place }; passed = passed; part = part } }
+// The call did its job.
+const NONE: Refusal = Refusal {
+    number: 0,
+    place: 0,
+};
+
+fn judged_as(refusal: Refusal, passed: u64, part: usize) -> Judged
+    ensures { result ≡ record { refusal = refusal; passed = passed; part = part } }
 {
-    let refusal = Refusal {
-        number: number,
-        place: place as u64,
-    };
     Judged {
-        refusal: refusal,
-        passed: passed,
+        refusal,
+        passed,
         part: part as u64,
     }
 }
 
-fn swept_as(number: u64, place: usize, settled: u64, total: u64) -> Swept
-    ensures { result ≡ record { refusal = record { number = number; place = place }; settled = settled; total = total } }
+fn swept_as(refusal: Refusal, settled: u64, total: u64) -> Swept
+    ensures { result ≡ record { refusal = refusal; settled = settled; total = total } }
 {
-    let refusal = Refusal {
-        number: number,
-        place: place as u64,
-    };
     Swept {
-        refusal: refusal,
-        settled: settled,
-        total: total,
+        refusal,
+        settled,
+        total,
     }
 }
 
-fn projected_as(number: u64, place: usize, floor: i64, remainder: u64, divisor: u64) -> Projected
-    ensures { result ≡ record {
-      refusal = record { number = number; place = place };
-      floor = floor;
-      remainder = remainder;
-      divisor = divisor;
-    } }
+fn projected_as(refusal: Refusal, floor: i64, remainder: u64, divisor: u64) -> Projected
+    ensures { result ≡ record { refusal = refusal; floor = floor; remainder = remainder; divisor = divisor } }
 {
-    let refusal = Refusal {
-        number: number,
-        place: place as u64,
-    };
     Projected {
-        refusal: refusal,
-        floor: floor,
-        remainder: remainder,
-        divisor: divisor,
+        refusal,
+        floor,
+        remainder,
+        divisor,
     }
 }
 
-pub fn open_told(a: OpenAnswer) -> Refusal
-    ensures { result ≡ refusal_told (of_open a) }
+// Of a call that answers no more than that it did its job.
+pub fn done_told(a: Result<(), refusals::Refusal>) -> Refusal
+    ensures opened { result ≡ refusal_told (of_open a) }
+    ensures struck { result ≡ refusal_told (of_strike a) }
+    ensures written { result ≡ refusal_told (of_write a) }
 {
     match a {
-        OpenAnswer::Opened => refusal_of(0, 0),
-        OpenAnswer::Refused(number, place) => refusal_of(number, place),
+        Ok(()) => NONE,
+        Err(refusal) => refusal.into(),
     }
 }
 
-pub fn strike_told(a: StrikeAnswer) -> Refusal
-    ensures { result ≡ refusal_told (of_strike a) }
-{
-    match a {
-        StrikeAnswer::Struck => refusal_of(0, 0),
-        StrikeAnswer::Refused(number, place) => refusal_of(number, place),
-    }
-}
-
-pub fn judge_told(a: JudgeAnswer) -> Judged
+pub fn judge_told(a: Result<Judgement, refusals::Refusal>) -> Judged
     ensures { result ≡ judge_told (of_judge a) }
 {
     match a {
-        JudgeAnswer::Passed => judged_as(0, 0, 1, 0),
-        JudgeAnswer::Fails(k) => judged_as(0, 0, 0, k),
-        JudgeAnswer::Refused(number, place) => judged_as(number, place, 0, 0),
+        Ok(Judgement::Passed) => judged_as(NONE, 1, 0),
+        Ok(Judgement::Fails(k)) => judged_as(NONE, 0, k),
+        Err(refusal) => judged_as(refusal.into(), 0, 0),
     }
 }
 
-pub fn sweep_told(a: SweepAnswer) -> Swept
+pub fn sweep_told(a: Result<Progress, refusals::Refusal>) -> Swept
     ensures { result ≡ sweep_told (of_sweep a) }
 {
     match a {
-        SweepAnswer::Settled(total) => swept_as(0, 0, 1, total),
-        SweepAnswer::Going(total) => swept_as(0, 0, 0, total),
-        SweepAnswer::Refused(number, place) => swept_as(number, place, 0, 0),
+        Ok(Progress::Settled(total)) => swept_as(NONE, 1, total),
+        Ok(Progress::Going(total)) => swept_as(NONE, 0, total),
+        Err(refusal) => swept_as(refusal.into(), 0, 0),
     }
 }
 
-pub fn write_told(a: WriteAnswer) -> Refusal
-    ensures { result ≡ refusal_told (of_write a) }
-{
-    match a {
-        WriteAnswer::Written => refusal_of(0, 0),
-        WriteAnswer::Refused(number, place) => refusal_of(number, place),
-    }
-}
-
-pub fn ultimate_told(a: UltimateAnswer) -> Projected
+pub fn ultimate_told(a: Result<Ultimate, refusals::Refusal>) -> Projected
     ensures { result ≡ ultimate_told (of_project a) }
 {
     match a {
-        UltimateAnswer::Central(found) => {
-            projected_as(0, 0, found.floor, found.remainder, found.divisor)
-        }
-        UltimateAnswer::Refused(number, place) => projected_as(number, place, 0, 0, 0),
+        Ok(found) => projected_as(NONE, found.floor, found.remainder, found.divisor),
+        Err(refusal) => projected_as(refusal.into(), 0, 0, 0),
     }
 }
 
-fn figures_told(a: FiguresAnswer) -> Refusal
-    ensures { result ≡ figures_told a }
+fn system_of(refusal: Refusal, figures: Figures) -> System
+    ensures { result ≡ system_of refusal figures }
 {
-    match a {
-        FiguresAnswer::Shown => refusal_of(0, 0),
-        FiguresAnswer::Refused(number, place) => refusal_of(number, place),
-    }
-}
-
-pub fn system_told(shown: Showing) -> System
-    ensures { result ≡ system_told shown }
-{
-    let answer = shown.answer;
-    let refusal = figures_told(answer);
-    let figures = shown.figures;
-    let own = figures.own;
-    let matrix = figures.matrix;
-    let right_hand = figures.right_hand;
     System {
-        refusal: refusal,
+        refusal,
         last: figures.last as u64,
         closeness: figures.closeness,
-        own: own,
-        matrix: matrix,
-        right_hand: right_hand,
+        own: figures.own,
+        matrix: figures.matrix,
+        right_hand: figures.right_hand,
+    }
+}
+
+// Zeros where nothing is shown.
+pub fn system_told(shown: Result<Figures, refusals::Refusal>) -> System
+    ensures { result ≡ system_told shown }
+{
+    let nothing = Figures {
+        last: 0,
+        closeness: 0,
+        own: [0; 31],
+        matrix: [0; 961],
+        right_hand: [0; 31],
+    };
+    match shown {
+        Ok(figures) => system_of(NONE, figures),
+        Err(refusal) => system_of(refusal.into(), nothing),
     }
 }
