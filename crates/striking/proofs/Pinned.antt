@@ -1,35 +1,32 @@
 -- What callers can count on, in plain numbers, each drawn from the contract of strike alone.
-use Rattle.std.specs.Prelude.{ℕ, ◌≡◌, refl, List, ◌∷◌, ℤ}
-use Rattle.std.proofs.Common.{sym, ◌∙◌, arith}
+use Rattle.std.specs.Prelude.{ℕ, ◌≡◌, refl, Ok, Err, List, ◌∷◌, ℤ}
+use Rattle.std.proofs.Common.{sym, ◌∙◌}
 use Rattle.std.proofs.Math.Path.{ap}
 use Rattle.definitions.specs.Words.{tab_from}
 use Rattle.definitions.specs.Layout.{last_year, parts, prior_mean}
 use Rattle.definitions.specs.Refusals.{Check, clear, refuses}
 use Rattle.definitions.specs.Matrix.{figures_from}
 use Rattle.definitions.specs.Strikes.{Step, StruckFile, Admitted, is_struck, strike_check}
-use Rattle.definitions.specs.Machine.{Answer, refused, struck_out, strike, holds, map_state, strike_unless, strike_call, the_file, outcome}
+use Rattle.definitions.specs.Machine.{struck_out, strike, holds, map_state, strike_unless, strike_call, the_file, outcome}
 use Rattle.definitions.specs.Kept.{kept_of, in_session}
 use Rattle.laws.specs.MachineLaws.{map_outcome}
 use Rattle.laws.proofs.MachineLaws.{outcome_alike, session_alike}
 use Rattle.laws.proofs.StruckSteps.{strikable, strike_leaves}
+use Rattle.layout.specs.declared.refusals.Refusal.{Refusal}
 use Rattle.observations.specs.declared.Observations.{Observations}
 use Rattle.holding.specs.State.{Held, session_state, HoldsFile}
 use Rattle.holding.proofs.StateLaws.{held_of_session}
-use Rattle.striking.specs.declared.StrikeAnswer.TheVariants.{Struck, Refused}
 use Rattle.striking.specs.Strikes.{strikes_to, Strikes}
 
 -- a call that is refused leaves the session as it was
-pub strike_refused : (d : Step) (s t : Held) (o p : Observations) (number place : ℕ) → Strikes d s o (Refused number place) t p
+pub strike_refused : (d : Step) (s t : Held) (o p : Observations) (refusal : Refusal) → Strikes d s o (Err refusal) t p
     → (t ≡ s) × (p ≡ o)
-strike_refused d s t o p number place call = call.same number place refl
+strike_refused d s t o p refusal call = call.same refusal refl
 
 -- ---- what a strike leaves of a file is a file that the other calls speak of, with that step struck, the prior means and no sweep run
 
-struck_refused : {number place : ℕ} → ◌≡◌ {A = Answer} struck_out (refused number place) → ⊥
-struck_refused e = let z : ◌≡◌ {A = ℕ} 0 1 = cc in omega arith
-
 module _ (d : Step) (s t : Held) (o p : Observations) (f : StruckFile) (μ : List ℤ) (count : ℕ) (file : Admitted f)
-    (kept : session_state o s ≡ holds (kept_of f) μ count) (call : Strikes d s o Struck t p) where
+    (kept : session_state o s ≡ holds (kept_of f) μ count) (call : Strikes d s o (Ok tt) t p) where
   abbrev without_it : StruckFile
   without_it = record { file = f.file; struck = d ∷ f.struck }
 
@@ -52,7 +49,7 @@ module _ (d : Step) (s t : Held) (o p : Observations) (f : StruckFile) (μ : Lis
           → session_state p t ≡ map_state kept_of (strike_unless the_file c d f μ count).state
           → (check ≡ clear) × (session_state p t ≡ holds (kept_of without_it) start 0)
       by_check clear e a st = (e, st)
-      by_check (refuses number place) e a st = absurd (struck_refused a)
+      by_check (refuses number place) e a st = cc
 
   pub struck_keeps : session_state p t ≡ holds (kept_of without_it) start 0
   struck_keeps = struck_to.1

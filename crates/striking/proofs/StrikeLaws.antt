@@ -1,6 +1,6 @@
 -- The machine's outcome of a strike, case by case: what the call shows of its answer. Whatever stands in the session, what is held
 -- afterwards are the figures of what is left, and they fit.
-use Rattle.std.specs.Prelude.{ℕ, ◌+◌, ◌*◌, ◌≤◌, ◌<◌, ◌≡◌, refl, Bool, ◌||◌, List, ℤ, length, set}
+use Rattle.std.specs.Prelude.{ℕ, ◌+◌, ◌*◌, ◌≤◌, ◌<◌, ◌≡◌, refl, Ok, Err, Bool, ◌||◌, List, ℤ, length, set}
 use Rattle.std.proofs.Common.{sym, ap, ap₂, ◌∙◌, arith}
 use Rattle.std.proofs.Math.Path.{subst}
 use Rattle.definitions.specs.Words.{part}
@@ -18,6 +18,9 @@ use Rattle.laws.proofs.StepLaws.{bring_back_inside}
 use Rattle.laws.proofs.StruckSteps.{strikable, strike_leaves, check_cong}
 use Rattle.laws.proofs.StruckChain.{left_bounded, left_owned}
 use Rattle.laws.proofs.Tables.{tab_cong}
+use Rattle.layout.specs.declared.refusals.Reason.TheVariants.{NothingOpen}
+use Rattle.layout.specs.declared.refusals.Refusal.{Refusal}
+use Rattle.layout.specs.Refusals.{number_of}
 use Rattle.observations.specs.declared.Observations.{Observations}
 use Rattle.observations.specs.Arrays.{mean_at, mark_at, observations_at, observed_in, struck_in}
 use Rattle.observations.specs.Strikes.{LeftIn}
@@ -29,23 +32,18 @@ use Rattle.chain.specs.Fitting.{Fitting}
 use Rattle.chain.proofs.AcceptedFits.{chain_fits}
 use Rattle.holding.specs.State.{Held, Fits, held_at}
 use Rattle.holding.proofs.StateLaws.{state_of_held, state_of_empty}
-use Rattle.striking.specs.declared.StrikeAnswer.{StrikeAnswer}
-use Rattle.striking.specs.declared.StrikeAnswer.TheVariants.{Struck, Refused}
 use Rattle.striking.specs.Strikes.{Strikes}
 use Rattle.striking.specs.Steps.{OfStep, mark_of}
 use Rattle.striking.proofs.StepLaws.{placed, mark_inside}
 use Rattle.striking.specs.Anew.{Anew}
 
-struck_refused : {number place : ℕ} → ◌≡◌ {A = StrikeAnswer} Struck (Refused number place) → ⊥
-struck_refused e = let z : ◌≡◌ {A = ℕ} 0 1 = cc in omega arith
-
 module _ (d : Step) (s : Held) (o : Observations) where
-  pub strikes_closed : ¬ Fits s → Strikes d s o (Refused 21 0) s o
+  pub strikes_closed : ¬ Fits s → Strikes d s o (Err (record { reason = NothingOpen; place = 0 })) s o
   unfolding strike_call
   strikes_closed h = let e = state_of_empty s h in record {
     answer = rw e refl;
     state = rw e refl;
-    same = λ number place _. (refl, refl);
+    same = λ refusal _. (refl, refl);
   }
 
   abbrev J : ℕ
@@ -54,14 +52,14 @@ module _ (d : Step) (s : Held) (o : Observations) where
   abbrev struck : Step → Bool
   struck = marked J (struck_in J o)
 
-  pub strikes_refused : Fits s → (number place : ℕ)
-      → strike_check s.figures.last (marked s.figures.last (struck_in s.figures.last o)) d ≡ refuses number place
-      → Strikes d s o (Refused number place) s o
+  pub strikes_refused : Fits s → (r : Refusal)
+      → strike_check s.figures.last (marked s.figures.last (struck_in s.figures.last o)) d ≡ refuses (number_of r.reason) r.place
+      → Strikes d s o (Err r) s o
   unfolding strike_call figures_of
-  strikes_refused h number place c = let e = state_of_held s h in record {
+  strikes_refused h r c = let e = state_of_held s h in record {
     answer = rw (e, c) refl;
     state = rw (e, c) refl;
-    same = λ _ _ _. (refl, refl);
+    same = λ _ _. (refl, refl);
   }
 
   abbrev more : Step → Bool
@@ -73,7 +71,7 @@ module _ (d : Step) (s : Held) (o : Observations) where
   strikes_done : Fits s → strike_check J struck d ≡ clear → (t : Held) (p : Observations) → Fits t
       → figures_of t.figures ≡ D.figures_from left s.figures.closeness → observed_in J p ≡ observed_in J o
       → struck_in J p ≡ marks_of J more → mean_of t.figures.last t.mean ≡ (observed_in J o).prior_means → t.total ≡ 0
-      → Strikes d s o Struck t p
+      → Strikes d s o (Ok tt) t p
   unfolding strike_call figures_of D.figures_from
   strikes_done h c t p fits figures observed marks mean total =
       let e = state_of_held s h in
@@ -81,7 +79,7 @@ module _ (d : Step) (s : Held) (o : Observations) where
       record {
         answer = rw (e, c) refl;
         state = rw (e, c, state_of_held t fits, mean, total, figures, last, observed, marks) refl;
-        same = λ number place refused. absurd (struck_refused refused);
+        same = λ refusal refused. cc;
       }
 
 -- ---- a session that is open, and its marks inside their limits
@@ -178,7 +176,7 @@ module _ (s : Held) (o : Observations) (h : Fits s) {counted marks : List ℕ} (
       unfolding observed_in
       mean_is = tab_cong 0 (parts N) (λ l _ to. part_is l (omega arith))
 
-      pub done : Strikes (step c i j) s o Struck (held_at s.figures.last s.figures.closeness 0 own A b mean)
+      pub done : Strikes (step c i j) s o (Ok tt) (held_at s.figures.last s.figures.closeness 0 own A b mean)
           (observations_at ticks weights o.variances (set marks (16 * part_of_step s.figures.last (step c i j) + i) 1))
       done =
           strikes_done (step c i j) s o h passed after observed after_fits figures_are

@@ -8,19 +8,12 @@ ghost use Rattle.striking.specs.Strikes.{StrikesLent};
 use crate::anew::made_anew;
 use crate::steps::{check_step, place_of};
 use holding::bounds::is_open;
-use layout::checks::Check;
+use layout::refusals::{Reason, Refusal};
 use observations::inside::marks_inside;
 use observations::strikes::left_in;
 
 mod anew;
 mod steps;
-
-#[derive(Drop)]
-pub enum StrikeAnswer {
-    Struck,
-    // The specification's number and place.
-    Refused(u64, usize),
-}
 
 // 21, then 14, 26, 27. The mean goes back to the prior means, and the sweeps run to 0. The variances of the file play no part.
 pub fn strike_lent<'a>(
@@ -35,7 +28,7 @@ pub fn strike_lent<'a>(
     channel: u64,
     year: u64,
     column: u64,
-) -> StrikeAnswer
+) -> Result<(), Refusal>
     ensures { StrikesLent channel year column
         (held_in held.old own.old matrix.old right_hand.old mean.old)
         ticks.old weights.old struck.old result
@@ -53,19 +46,15 @@ pub fn strike_lent<'a>(
         right_hand,
         mean,
     ) {
-        return StrikeAnswer::Refused(21, 0);
+        return Err(Reason::NothingOpen.at(0));
     }
     let last = years as u8;
     let left = left_in(struck, last);
     let mut marks = marks_inside(&left, struck);
-    let checked = check_step(&marks, last, channel, year, column);
-    if let Check::Refuses(number, place) = checked {
-        return StrikeAnswer::Refused(number, place);
-    }
+    check_step(&marks, last, channel, year, column)?;
     marks[place_of(last, channel, year, column)] = 1;
     *struck = marks;
     made_anew(own, matrix, right_hand, mean, ticks, weights, struck, last);
-    let numbers = [years, closeness, 0];
-    *held = numbers;
-    StrikeAnswer::Struck
+    *held = [years, closeness, 0];
+    Ok(())
 }

@@ -2,11 +2,11 @@
 ghost use Rattle.std.specs.Prelude.{◌≡◌, ◌+◌, ◌*◌};
 ghost use Rattle.definitions.specs.Strikes.{step, is_step, strike_check};
 ghost use Rattle.definitions.specs.Kept.{part_of_step};
-ghost use Rattle.layout.specs.Checks.{told};
+ghost use Rattle.layout.specs.Refusals.{told};
 ghost use Rattle.observations.specs.Strikes.{OfYears};
 ghost use Rattle.striking.specs.Steps.{OfStep, mark_of};
 
-use layout::checks::Check;
+use layout::refusals::{Reason, Refusal};
 use observations::strikes::{left_of, steps_of};
 
 // Whether there is such a step, whatever the numbers: accident year i has the columns 0..J−i of x, and those before J−i of z.
@@ -44,22 +44,28 @@ pub fn place_of(last: u8, channel: u64, year: u64, column: u64) -> usize
 }
 
 // 14, 26, 27, by marks of which no column is marked throughout.
-pub fn check_step(marks: &[u8; 496], last: u8, channel: u64, year: u64, column: u64) -> Check
+pub fn check_step(
+    marks: &[u8; 496],
+    last: u8,
+    channel: u64,
+    year: u64,
+    column: u64,
+) -> Result<(), Refusal>
     requires { OfYears last }
     ensures { told result ≡ strike_check last (mark_of last marks.now) (step channel year column) }
 {
     if 1 < channel {
-        return Check::Refuses(14, 0);
+        return Err(Reason::Channel.at(0));
     }
     if !is_step(last, channel, year, column) {
-        return Check::Refuses(26, 0);
+        return Err(Reason::Step.at(0));
     }
     if marks[place_of(last, channel, year, column)] != 0 {
-        return Check::Refuses(26, 0);
+        return Err(Reason::Step.at(0));
     }
     let k = part_of(last, channel, year, column);
     if left_of(marks, k, steps_of(last, k)) == 1 {
-        return Check::Refuses(27, 0);
+        return Err(Reason::LastStep.at(0));
     }
-    Check::Clear
+    Ok(())
 }

@@ -1,28 +1,26 @@
 -- `strike_lent` meets its contract: after 21 and the check of the step it is marked, and what is left is held with the prior means.
 use Prim.Native.Nat.{ℕ, ◌≤◌}
-use mathlib.Core.Path.{◌≡◌, sym, ap, subst, ◌∙◌}
+use mathlib.Core.Path.{◌≡◌, sym, subst, ◌∙◌}
 use mathlib.Core.List.{List}
+use Rattle.std.proofs.Common.{Ok, Err}
 use native.Mathlib.Omega.{arith}
 use lib.ListN.{set}
 use Rattle.definitions.specs.Refusals.{clear}
 use Rattle.definitions.specs.Strikes.{Step, step, strike_check}
-use Rattle.definitions.specs.Kept.{marked}
-use Rattle.layout.specs.Checks.{told}
 use Rattle.observations.specs.declared.Observations.{Observations}
-use Rattle.observations.specs.Arrays.{observations_at, struck_in}
+use Rattle.observations.specs.Arrays.{observations_at}
 use Rattle.chain.specs.Arrays.{figures_of}
 use Rattle.holding.specs.State.{Held, Fits, held_at, held_in}
-use Rattle.striking.specs.declared.StrikeAnswer.TheVariants.{Struck}
 use Rattle.striking.specs.Strikes.{Strikes}
 use Rattle.striking.specs.Steps.{OfStep, mark_of}
 use Rattle.striking.proofs.StepLaws.{mark_inside, of_clear}
 use Rattle.striking.specs.Anew.{Anew}
 use Rattle.striking.proofs.StrikeLaws.{strikes_closed, strikes_refused, check_agrees, done}
 use Rattle.striking.proofs.strike_lent.Goals as goal
-use Rattle.striking.proofs.strike_lent.Goals.{After-check_step-checked, Else-not-is_open, In_default, Start}
+use Rattle.striking.proofs.strike_lent.Goals.{Else-not-is_open, In_ok-check_step, Start}
 
 pub returns-then-not-is_open : goal.returns-then-not-is_open
-returns-then-not-is_open c variances = strikes_closed _ _ _ (c.is_open.ensures.when_no c.if-not-is_open.true)
+returns-then-not-is_open c variances = rw c.at.ensures (strikes_closed _ _ _ (c.is_open.ensures.when_no c.if-not-is_open.true))
 
 -- the session that is lent
 module _ (c : Start) where
@@ -53,56 +51,43 @@ overflow_cast-last c = omega (arith, years c)
 pub left_in-left-requires : goal.left_in-left-requires
 left_in-left-requires c = record { few = years c }
 
-pub check_step-checked-requires : goal.check_step-checked-requires
-check_step-checked-requires c = record { few = years (goal.at.check_step-checked-requires c).Else-not-is_open }
+pub check_step-requires : goal.check_step-requires
+check_step-requires c = record { few = years (goal.at.check_step-requires c).Else-not-is_open }
 
--- the step, checked by the marks that are inside their limits
-module _ (c : After-check_step-checked) where
-  abbrev start : Start
-  start = c.before.before.before.before.before.before.before.before.before.before.before.before
+pub returns-in_err-check_step : goal.returns-in_err-check_step
+returns-in_err-check_step c variances =
+    let at = goal.at.returns-in_err-check_step c in
+    let a = c.args in
+    let opened = open_file at.Else-not-is_open in
+    let refusal = c.in_err-check_step.field-0.0 in
+    let handed : c.from_residual.result ≡ Err refusal = grind arith in
+    rw handed (strikes_refused (step a.channel a.year a.column) (S at.Start) (O at.Start variances) opened refusal
+    (sym (c.in_err-check_step.ensures
+    ∙ check_agrees (S at.Start) (O at.Start variances) opened c.left_in-left.ensures c.marks_inside-marks.ensures
+    (step a.channel a.year a.column))))
+
+-- the step is checked by the marks that are inside their limits: no refusal is told
+module _ (c : In_ok-check_step) where
+  abbrev from : Start
+  from = (goal.at.place_of-requires c).Start
 
   abbrev d : Step
   d = let a = c.args in step a.channel a.year a.column
 
-  abbrev marks : List ℕ
-  marks = c.marks_inside-marks.result
-
-  -- by what the session keeps, whatever its variances
-  check_is : (variances : List ℕ) → told c.check_step-checked.result
-      ≡ strike_check (S start).figures.last (marked (S start).figures.last (struck_in (S start).figures.last (O start variances))) d
-  check_is variances =
-      c.check_step-checked.ensures
-      ∙ check_agrees (S start) (O start variances) (c.is_open.ensures.when_yes c.if-not-is_open.false) c.left_in-left.ensures
-      c.marks_inside-marks.ensures d
-
-pub returns-in-Refuses : goal.returns-in-Refuses
-returns-in-Refuses c variances =
-    let at = goal.at.returns-in-Refuses c in
-    strikes_refused (d at.After-check_step-checked) (S at.Start) (O at.Start variances) (open_file at.Else-not-is_open) _ _
-    (sym (check_is at.After-check_step-checked variances) ∙ ap told c.in-Refuses.is)
-
--- no refusal is told
-module _ (c : In_default) where
-  abbrev from : Start
-  from = (goal.at.place_of-requires c).Start
-
-  abbrev checked : After-check_step-checked
-  checked = (goal.at.place_of-requires c).After-check_step-checked
-
-  clear_check : strike_check (S from).figures.last (mark_of (S from).figures.last (marks checked)) (d checked) ≡ clear
-  clear_check = sym c.check_step-checked.ensures ∙ ap told c.in_default.is
+  clear_check : strike_check (S from).figures.last (mark_of (S from).figures.last c.marks_inside-marks.result) d ≡ clear
+  clear_check = sym c.in_ok-check_step.ensures
 
   of_step : let a = c.args in OfStep (S from).figures.last a.channel a.year a.column
   of_step =
       let a = c.args in
-      of_clear (S from).figures.last (mark_of (S from).figures.last (marks checked)) a.channel a.year a.column
+      of_clear (S from).figures.last (mark_of (S from).figures.last c.marks_inside-marks.result) a.channel a.year a.column
       (years (goal.at.place_of-requires c).Else-not-is_open) clear_check
 
 pub place_of-requires : goal.place_of-requires
 place_of-requires c = of_step c
 
 pub bounds-marks-place_of : goal.bounds-marks-place_of
-bounds-marks-place_of c = omega (arith, c.place_of.ensures, mark_inside (of_step (goal.at.bounds-marks-place_of c).In_default))
+bounds-marks-place_of c = omega (arith, c.place_of.ensures, mark_inside (of_step (goal.at.bounds-marks-place_of c).In_ok-check_step))
 
 pub made_anew-requires : goal.made_anew-requires
 made_anew-requires c = record { few = years (goal.at.made_anew-requires c).Else-not-is_open }
@@ -114,11 +99,14 @@ returns c variances =
     let s = S at.Start in
     let J = s.figures.last in
     let m = c.made_anew.new in
-    subst (λ n. Strikes (d at.After-check_step-checked) s (O at.Start variances) Struck
+    let opened = open_file at.Else-not-is_open in
+    let checked = d at.In_ok-check_step in
+    subst (λ n. Strikes checked s (O at.Start variances) (Ok tt)
     (held_at J s.figures.closeness 0 m.own m.matrix m.right_hand m.mean)
     (observations_at m.ticks m.weights variances (set c.marks_inside-marks.result n 1))) (sym c.place_of.ensures)
-    (done s (O at.Start variances) (open_file at.Else-not-is_open) c.left_in-left.ensures c.marks_inside-marks.ensures
-    a.channel a.year a.column (of_step at.In_default)
-    (sym (check_is at.After-check_step-checked variances) ∙ ap told c.in_default.is)
+    (done s (O at.Start variances) opened c.left_in-left.ensures c.marks_inside-marks.ensures
+    a.channel a.year a.column (of_step at.In_ok-check_step)
+    (sym (check_agrees s (O at.Start variances) opened c.left_in-left.ensures c.marks_inside-marks.ensures checked)
+    ∙ clear_check at.In_ok-check_step)
     (subst (λ n. Anew J a.ticks.now a.weights.now (set c.marks_inside-marks.result n 1) m.own m.matrix m.right_hand m.mean
     m.ticks m.weights) c.place_of.ensures c.made_anew.ensures))

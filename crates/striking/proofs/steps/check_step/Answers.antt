@@ -16,7 +16,9 @@ use Rattle.striking.proofs.steps.check_step.Goals as goal
 use Rattle.striking.proofs.steps.check_step.Goals.{After-left_of, After-part_of-k, After-place_of, Else-channel-gt1, Else-not-is_step}
 
 pub returns-then-channel-gt1 : goal.returns-then-channel-gt1
-returns-then-channel-gt1 c = let a = c.args in no_channel a.last a.channel a.year a.column a.marks.now c.if-channel-gt1.true
+returns-then-channel-gt1 c =
+    let a = c.args in
+    rw c.at.ensures (no_channel a.last a.channel a.year a.column a.marks.now c.if-channel-gt1.true)
 
 channel : (c : Else-channel-gt1) → c.args.channel ≤ 1
 channel c = omega (arith, c.if-channel-gt1.false)
@@ -24,8 +26,8 @@ channel c = omega (arith, c.if-channel-gt1.false)
 pub returns-then-not-is_step : goal.returns-then-not-is_step
 returns-then-not-is_step c =
     let a = c.args in
-    no_step a.last a.channel a.year a.column a.marks.now (channel (goal.at.returns-then-not-is_step c).Else-channel-gt1)
-    (sym c.is_step.ensures ∙ c.if-not-is_step.true)
+    rw c.at-then-not-is_step.ensures (no_step a.last a.channel a.year a.column a.marks.now (channel (goal.at.returns-then-not-is_step c).Else-channel-gt1)
+    (sym c.is_step.ensures ∙ c.if-not-is_step.true))
 
 -- there is such a step
 module _ (c : Else-not-is_step) where
@@ -49,9 +51,9 @@ mark_is c = let a = c.args in ap (λ n. not (eqb (at a.marks.now n) 0)) c.place_
 pub returns-then-marks-place_of-ne0 : goal.returns-then-marks-place_of-ne0
 returns-then-marks-place_of-ne0 c =
     let a = c.args in
-    struck_already a.last a.channel a.year a.column a.marks.now (channel (goal.at.returns-then-marks-place_of-ne0 c).Else-channel-gt1)
+    rw c.at-then-marks-place_of-ne0.ensures (struck_already a.last a.channel a.year a.column a.marks.now (channel (goal.at.returns-then-marks-place_of-ne0 c).Else-channel-gt1)
     (there (goal.at.returns-then-marks-place_of-ne0 c).Else-not-is_step)
-    (sym (mark_is (goal.at.returns-then-marks-place_of-ne0 c).After-place_of) ∙ ap not (ne_eqb _ 0 c.if-marks-place_of-ne0.true))
+    (sym (mark_is (goal.at.returns-then-marks-place_of-ne0 c).After-place_of) ∙ ap not (ne_eqb _ 0 c.if-marks-place_of-ne0.true)))
 
 pub part_of-k-requires : goal.part_of-k-requires
 part_of-k-requires c = of_step (goal.at.part_of-k-requires c).Else-not-is_step
@@ -99,9 +101,9 @@ pub returns-then-left_of-eq1 : goal.returns-then-left_of-eq1
 returns-then-left_of-eq1 c =
     let after_left_of = (goal.at.returns-then-left_of-eq1 c).After-left_of in
     let s = c.args in
-    last_left s.last s.channel s.year s.column s.marks.now (channel (goal.at.returns-then-left_of-eq1 c).Else-channel-gt1)
+    rw c.at-then-left_of-eq1.ensures (last_left s.last s.channel s.year s.column s.marks.now (channel (goal.at.returns-then-left_of-eq1 c).Else-channel-gt1)
     (there (goal.at.returns-then-left_of-eq1 c).Else-not-is_step)
-    (unmarked_yet after_left_of) (count after_left_of (of_step (goal.at.returns-then-left_of-eq1 c).Else-not-is_step)) c.if-left_of-eq1.true
+    (unmarked_yet after_left_of) (count after_left_of (of_step (goal.at.returns-then-left_of-eq1 c).Else-not-is_step)) c.if-left_of-eq1.true)
 
 pub returns : goal.returns
 returns c =
