@@ -1,66 +1,51 @@
 // The arguments of a call, from standard input: never more bytes than the call has, so that it can be answered before the next.
-ghost use Rattle.std.specs.Prelude.{◌≡◌};
+ghost use Rattle.std.specs.Prelude.{IfOk};
 ghost use Rattle.calls.specs.Counts.{IsPrefixLen};
 
+use crate::call::Call;
+use crate::stop::Stop;
 use fields::{Field, unsigned_4};
 use std::io::Read;
 
-// How many bytes of a buffer are meant; 0 where the script is wrong.
-#[derive(Drop)]
-pub struct Length {
-    pub right: bool,
-    pub bytes: usize,
+// Fills the buffer. An input that ends first cuts the call off.
+fn read_full(rt: &HostRuntime, buffer: &mut [u8]) -> Result<(), Stop> {
+    rt.stdin().read_exact(buffer).map_err(|_| Stop::Script)
 }
 
-fn wrong() -> Length
-    ensures { result.bytes ≡ 0 }
-{
-    Length {
-        right: false,
-        bytes: 0,
+// The next call, where there is one.
+pub fn read_call(rt: &HostRuntime) -> Result<Call, Stop> {
+    let mut letter = [0u8; 1];
+    match rt.stdin().read_exact(&mut letter) {
+        Ok(()) => Call::try_from(letter[0]),
+        Err(_) => Err(Stop::Input),
     }
 }
 
-// Fills the buffer, and answers whether the input had so many bytes.
-pub fn read_full(rt: &HostRuntime, buffer: &mut [u8]) -> bool {
-    rt.stdin().read_exact(buffer).is_ok()
-}
-
-pub fn read_number(rt: &HostRuntime) -> Field {
+pub fn read_number(rt: &HostRuntime) -> Result<u64, Stop> {
     let mut four = [0u8; 4];
-    if !read_full(rt, &mut four) {
-        return Field::End;
+    read_full(rt, &mut four)?;
+    match unsigned_4(&four, 0) {
+        Field::Value(n) => Ok(n),
+        Field::End => Err(Stop::Script),
     }
-    unsigned_4(&four, 0)
 }
 
 // A number that is at most the length of the buffer.
-pub fn read_length(rt: &HostRuntime, buffer: &[u8]) -> Length
-    ensures { IsPrefixLen result.bytes buffer.now }
+pub fn read_length(rt: &HostRuntime, buffer: &[u8]) -> Result<usize, Stop>
+    ensures { IfOk result (λ n. IsPrefixLen n buffer.now) }
 {
-    let Field::Value(n) = read_number(rt) else {
-        return wrong();
-    };
+    let n = read_number(rt)?;
     if (buffer.len() as u64) < n {
-        return wrong();
+        return Err(Stop::Script);
     }
-    Length {
-        right: true,
-        bytes: n as usize,
-    }
+    Ok(n as usize)
 }
 
 // A byte string, to the front of the buffer: its length, and that many bytes.
-pub fn read_string(rt: &HostRuntime, buffer: &mut [u8]) -> Length
-    ensures { IsPrefixLen result.bytes buffer.new }
+pub fn read_string(rt: &HostRuntime, buffer: &mut [u8]) -> Result<usize, Stop>
+    ensures { IfOk result (λ n. IsPrefixLen n buffer.new) }
 {
-    let length = read_length(rt, buffer);
-    if !length.right {
-        return length;
-    }
-    let n = length.bytes;
-    if !read_full(rt, &mut buffer[..n]) {
-        return wrong();
-    }
-    length
+    let n = read_length(rt, buffer)?;
+    read_full(rt, &mut buffer[..n])?;
+    Ok(n)
 }

@@ -1,59 +1,38 @@
 // The figures of an open file on standard output: J and the closeness, the own weights, the rows of the matrix and the right-hand
-// side, one line each. Each function answers whether all of it was written.
+// side, one line each.
 ghost use Rattle.std.specs.Prelude.{◌≤◌};
 
-use crate::printing::{print, print_count, print_decimal, print_refusal, print_signed};
+use crate::printing::print_refusal;
 use chain::arrays::Figures;
 use session::answers::{FiguresAnswer, Showing};
+use std::fmt::Display;
+use std::io;
 
-fn print_weights(rt: &HostRuntime, weights: &[u64]) -> bool {
-    if !print(rt, b"own") {
-        return false;
+// A name and numbers.
+fn print_numbers<T: Display + Copy>(rt: &HostRuntime, name: &str, numbers: &[T]) -> io::Result<()> {
+    print!(rt; "{name}")?;
+    for number in numbers {
+        print!(rt; " {number}")?;
     }
-    let mut k = 0usize;
-    while k < weights.len() {
-        if !(print(rt, b" ") && print_decimal(rt, weights[k])) {
-            return false;
-        }
-        k += 1;
-    }
-    print(rt, b"\n")
+    println!(rt)
 }
 
-fn print_numbers(rt: &HostRuntime, name: &[u8], numbers: &[i64]) -> bool {
-    if !print(rt, name) {
-        return false;
-    }
-    let mut k = 0usize;
-    while k < numbers.len() {
-        if !print_signed(rt, numbers[k]) {
-            return false;
-        }
-        k += 1;
-    }
-    print(rt, b"\n")
-}
-
-fn print_rows(rt: &HostRuntime, count: usize, matrix: [i64; 961]) -> bool
+fn print_rows(rt: &HostRuntime, count: usize, matrix: [i64; 961]) -> io::Result<()>
     requires { count ≤ 31 }
 {
-    let mut k = 0usize;
-    while k < count {
+    for k in 0..count {
         let start = 31 * k;
         let end = start + count;
-        if !print_numbers(rt, b"row", &matrix[start..end]) {
-            return false;
-        }
-        k += 1;
+        print_numbers(rt, "row", &matrix[start..end])?;
     }
-    true
+    Ok(())
 }
 
 // 2J + 1, as no file that is open has J above 15.
 fn parts_of(last: usize) -> usize
     ensures { result ≤ 31 }
 {
-    if last < 15 { 2 * last + 1 } else { 31 }
+    2 * last.min(15) + 1
 }
 
 // An array that is a parameter has its length in its type; one that is a field has not.
@@ -63,29 +42,30 @@ fn print_arrays(
     own: [u64; 31],
     matrix: [i64; 961],
     right_hand: [i64; 31],
-) -> bool
+) -> io::Result<()>
     requires { count ≤ 31 }
 {
-    print_weights(rt, &own[..count])
-        && print_rows(rt, count, matrix)
-        && print_numbers(rt, b"right", &right_hand[..count])
+    print_numbers(rt, "own", &own[..count])?;
+    print_rows(rt, count, matrix)?;
+    print_numbers(rt, "right", &right_hand[..count])
 }
 
-fn print_system(rt: &HostRuntime, figures: Figures) -> bool {
-    let own = figures.own;
-    let matrix = figures.matrix;
-    let right_hand = figures.right_hand;
-    print(rt, b"figures ")
-        && print_decimal(rt, figures.last as u64)
-        && print_count(rt, b" ", figures.closeness)
-        && print_arrays(rt, parts_of(figures.last), own, matrix, right_hand)
+fn print_system(rt: &HostRuntime, figures: Figures) -> io::Result<()> {
+    let last = figures.last;
+    let closeness = figures.closeness;
+    println!(rt; "figures {last} {closeness}")?;
+    print_arrays(
+        rt,
+        parts_of(last),
+        figures.own,
+        figures.matrix,
+        figures.right_hand,
+    )
 }
 
-pub fn print_figures(rt: &HostRuntime, shown: Showing) -> bool {
-    let figures = shown.figures;
-    let answer = shown.answer;
-    match answer {
-        FiguresAnswer::Shown => print_system(rt, figures),
+pub fn print_figures(rt: &HostRuntime, shown: Showing) -> io::Result<()> {
+    match shown.answer {
+        FiguresAnswer::Shown => print_system(rt, shown.figures),
         FiguresAnswer::Refused(number, place) => print_refusal(rt, number, place),
     }
 }

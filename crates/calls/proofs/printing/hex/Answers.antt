@@ -3,16 +3,14 @@ use Rattle.std.proofs.Common.{arith, refl, length-set}
 use Rattle.calls.specs.Hex.{hex_of, hex_next}
 use Rattle.calls.proofs.printing.hex.Goals as goal
 
-pub loop-i-init : goal.loop-i-init
+pub loop-byte-init : goal.loop-byte-init
 unfolding hex_of
-loop-i-init c = (refl, omega arith, omega arith, refl, refl)
+loop-byte-init c = record { inside = omega arith; pairs = refl; digits = refl }
 
-pub loop-i-preserved : goal.loop-i-preserved
-loop-i-preserved c =
-    let l = c.loop-i in (
-      simp length-set l.invariant.0,
-      simp length-set (omega arith),
-      omega arith,
-      omega arith,
-      hex_next l.text _ l.end l.i _ _ (omega arith) (omega arith) l.invariant.4 c.digit.ensures c.digit-in-loop-i.ensures,
-    )
+pub loop-byte-preserved : goal.loop-byte-preserved
+loop-byte-preserved c =
+    let l = c.loop-byte in record {
+      inside = simp length-set (omega arith);
+      pairs = omega arith;
+      digits = hex_next l.text _ l.end l.byte-index _ _ (omega arith) (omega arith) l.invariant.digits c.digit.ensures c.digit-in-loop-byte.ensures;
+    }

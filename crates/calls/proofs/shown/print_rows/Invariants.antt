@@ -1,9 +1,0 @@
--- The measure is how many rows are left.
-use Rattle.std.proofs.Common.{◌-◌, ◌≤◌}
-use Rattle.calls.proofs.shown.print_rows.Given as goal
-
-abbrev pub invariant-loop-k : goal.invariant-loop-k
-invariant-loop-k l = l.k ≤ l.count
-
-abbrev pub decreases-loop-k : goal.decreases-loop-k
-decreases-loop-k l = l.count - l.k
