@@ -11,9 +11,9 @@ ghost use Rattle.settling.specs.Printed.{Prints};
 use layout::places::last_year;
 use pages::page_length;
 use session::Session;
-use session::answers::{SweepAnswer, WriteAnswer};
+use session::answers::WriteAnswer;
 use session::calls::page;
-use settling::{Printed, ROOM, read_full, refused, settle, spent};
+use settling::{Printed, printed_of, refused, run};
 use std::io;
 
 // The page of the mean that settled, which is never refused: it passes, and no page has more than 868 bytes.
@@ -28,10 +28,7 @@ fn page_mean(given: &[u8], s: Session) -> Printed
     }
     let last = last_year(given) as usize;
     let end = page_length(last);
-    Printed {
-        bytes: bytes,
-        end: end,
-    }
+    Printed { bytes, end }
 }
 
 // All that is printed. The second fact is what a part of an array is asked for.
@@ -39,20 +36,9 @@ fn board(given: &[u8]) -> Printed
     ensures bytes_value { take result.end result.bytes ≡ board_page given.now }
     ensures end_in_bounds { (result.end ≤ length result.bytes) × (result.end ≡ length (take result.end result.bytes)) }
 {
-    let settling = settle(given);
-    let answer = settling.answer;
-    match answer {
-        SweepAnswer::Settled(_) => page_mean(given, settling.session),
-        SweepAnswer::Going(total) => spent(total),
-        SweepAnswer::Refused(number, place) => refused(number, place),
-    }
+    printed_of(given, |s, _| page_mean(given, s))
 }
 
 fn main(rt: HostRuntime) -> io::Result<()> {
-    let mut given = [0u8; ROOM];
-    let n = read_full(&mut rt.stdin(), &mut given);
-    let printed = board(&given[..n]);
-    let bytes = printed.bytes;
-    let end = printed.end;
-    rt.write_all(&bytes[..end])
+    run(&rt, board)
 }

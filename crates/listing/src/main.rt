@@ -14,9 +14,9 @@ ghost use Rattle.listing.specs.Listing.{OfParts, record_lines};
 use fields::{SignedField, signed_4};
 use layout::places::last_year;
 use session::Session;
-use session::answers::{SweepAnswer, WriteAnswer};
+use session::answers::WriteAnswer;
 use session::calls::read;
-use settling::{Printed, ROOM, read_full, refused, settle, spent};
+use settling::{Printed, printed_of, refused, run};
 use std::io;
 use text::parts::{index_of, name_of};
 use text::put::{put, put_count, put_decimal, put_signed};
@@ -43,13 +43,11 @@ fn put_parts(page: &mut [u8], at: usize, last: usize, record: &[u8; 129]) -> usi
 {
     let count = 2 * last + 1;
     let mut end = at;
-    let mut k = 0usize;
-    while k < count {
+    for k in 0..count {
         let SignedField::Value(mean) = signed_4(record, 5 + 4 * k) else {
             return end;
         };
         end = put_part(page, end, last, k, mean);
-        k += 1;
     }
     end
 }
@@ -70,10 +68,7 @@ fn list_mean(given: &[u8], s: Session, total: u64) -> Printed
     let headed = put_count(&mut bytes, 0, b"J ", last as u64);
     let counted = put_count(&mut bytes, headed, b"sweeps ", total);
     let end = put_parts(&mut bytes, counted, last, &record);
-    Printed {
-        bytes: bytes,
-        end: end,
-    }
+    Printed { bytes, end }
 }
 
 // All that is printed. The longest has 33 lines and 524 bytes. The second fact is what a part of an array is asked for.
@@ -81,20 +76,9 @@ fn list(given: &[u8]) -> Printed
     ensures bytes_value { take result.end result.bytes ≡ listing given.now }
     ensures end_in_bounds { (result.end ≤ length result.bytes) × (result.end ≡ length (take result.end result.bytes)) }
 {
-    let settling = settle(given);
-    let answer = settling.answer;
-    match answer {
-        SweepAnswer::Settled(total) => list_mean(given, settling.session, total),
-        SweepAnswer::Going(total) => spent(total),
-        SweepAnswer::Refused(number, place) => refused(number, place),
-    }
+    printed_of(given, |s, total| list_mean(given, s, total))
 }
 
 fn main(rt: HostRuntime) -> io::Result<()> {
-    let mut given = [0u8; ROOM];
-    let n = read_full(&mut rt.stdin(), &mut given);
-    let printed = list(&given[..n]);
-    let bytes = printed.bytes;
-    let end = printed.end;
-    rt.write_all(&bytes[..end])
+    run(&rt, list)
 }

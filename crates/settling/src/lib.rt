@@ -1,26 +1,29 @@
 // What the two programs share: they open the file that is given and sweep, and gather what they print before they write it.
 #![tactic(auto)]
 
+ghost use Rattle.std.specs.Prelude.{ℕ};
 ghost use Rattle.definitions.specs.Programs.{refusal_line, spent_line};
+ghost use Rattle.laws.specs.Printed.{MeanSettled};
 ghost use Rattle.text.specs.Added.{OnPage};
+ghost use Rattle.holding.specs.State.{state_of};
+ghost use Rattle.session.specs.Value.{held_by};
 ghost use Rattle.settling.specs.Printed.{Prints};
 ghost use Rattle.settling.specs.Settles.{Settles};
+ghost use Rattle.settling.specs.Told.{Told};
 
+pub use crate::gathered::Printed;
+use session::Session;
 use session::answers::{OpenAnswer, SweepAnswer, Sweeping};
 use session::calls::{open, sweep};
 use session::state::empty;
+use std::io;
 use std::io::Read;
 use text::put::{put_count, put_refusal};
 
+mod gathered;
+
 // One byte more than the longest file has, so that a longer input shows.
 pub const ROOM: usize = 2807;
-
-// What is printed: the bytes up to `end`. For every input there is room for all of it.
-#[derive(Drop)]
-pub struct Printed {
-    pub bytes: [u8; 4096],
-    pub end: usize,
-}
 
 // Reads until the buffer is full, the input ends or a read fails: how many bytes it put at the front of the buffer.
 pub fn read_full<R: Read>(input: &mut R, buffer: &mut [u8]) -> usize
@@ -28,13 +31,10 @@ pub fn read_full<R: Read>(input: &mut R, buffer: &mut [u8]) -> usize
 {
     let mut done = 0usize;
     while done < buffer.len() {
-        let Ok(n) = input.read(&mut buffer[done..]) else {
-            break;
-        };
-        if n == 0 {
-            break;
+        match input.read(&mut buffer[done..]) {
+            Ok(0) | Err(_) => break,
+            Ok(n) => done += n,
         }
-        done += n;
     }
     done
 }
@@ -47,20 +47,14 @@ pub fn settle(given: &[u8]) -> Sweeping
     let session = empty();
     if ROOM <= given.len() {
         let answer = SweepAnswer::Refused(1, 0);
-        return Sweeping {
-            answer: answer,
-            session: session,
-        };
+        return Sweeping { answer, session };
     }
     let opening = open(session, given);
     let opened = opening.answer;
     let session = opening.session;
     if let OpenAnswer::Refused(number, place) = opened {
         let answer = SweepAnswer::Refused(number, place);
-        return Sweeping {
-            answer: answer,
-            session: session,
-        };
+        return Sweeping { answer, session };
     }
     sweep(session, 4096)
 }
@@ -70,10 +64,7 @@ pub fn spent(total: u64) -> Printed
 {
     let mut bytes = [0u8; 4096];
     let end = put_count(&mut bytes, 0, b"spent ", total);
-    Printed {
-        bytes: bytes,
-        end: end,
-    }
+    Printed { bytes, end }
 }
 
 pub fn refused(number: u64, place: usize) -> Printed
@@ -81,8 +72,33 @@ pub fn refused(number: u64, place: usize) -> Printed
 {
     let mut bytes = [0u8; 4096];
     let end = put_refusal(&mut bytes, number, place);
-    Printed {
-        bytes: bytes,
-        end: end,
+    Printed { bytes, end }
+}
+
+// What is printed of the bytes given: a refusal, the sweeps that were spent, or what is made of a session that holds the mean that
+// settled and of the sweeps that were run.
+pub fn printed_of<F>(given: &[u8], make: F) -> Printed
+where
+    F: FnOnce(Session, u64) -> Printed,
+    requires { (s : Session) (total : ℕ) → MeanSettled given.now (state_of (held_by s)) total → F.pre make s total }
+    ensures { Told given.now (λ s total. F.post make s total result) result }
+{
+    let settling = settle(given);
+    match settling.answer {
+        SweepAnswer::Settled(total) => make(settling.session, total),
+        SweepAnswer::Going(total) => spent(total),
+        SweepAnswer::Refused(number, place) => refused(number, place),
     }
+}
+
+// A program: prints what is made of standard input.
+pub fn run<F>(rt: &HostRuntime, make: F) -> io::Result<()>
+where
+    F: FnOnce(&[u8]) -> Printed,
+    requires { F.IsAlwaysCallable make }
+{
+    let mut given = [0u8; ROOM];
+    let n = read_full(&mut rt.stdin(), &mut given);
+    let printed = make(&given[..n]);
+    rt.write_all(printed.text())
 }

@@ -1,5 +1,5 @@
 -- The page that the call left at the front, and where it ends.
-use Rattle.std.proofs.Common.{◌≤◌, ◌≡◌, sym, ap, ◌∙◌, arith, length, replicate}
+use Rattle.std.proofs.Common.{◌≤◌, ◌≡◌, sym, ap, ◌∙◌, arith, length, replicate, length-take-le}
 use Rattle.definitions.specs.Layout.{Bytes, last_year}
 use Rattle.definitions.specs.Refusals.{year_limit}
 use Rattle.definitions.specs.Matrix.{figures_from, figures_of}
@@ -38,6 +38,13 @@ returns-in-Refused c = absurd ((page_whole (goal.at.returns-in-Refused c).After-
 
 pub page_length-end-requires : goal.page_length-end-requires
 page_length-end-requires c = omega (arith, c.last_year-last.ensures, years (goal.at.page_length-end-requires c).After-page-answer)
+
+pub invariant_of-result : goal.invariant_of-result
+invariant_of-result c =
+    let short = years (goal.at.invariant_of-result c).After-page-answer in
+    let ends : c.page_length-end.result ≤ length c.page-answer.new.buffer
+    = omega (arith, c.page_length-end.ensures, c.last_year-last.ensures, c.page-answer.auto.buffer, short) in
+    record { inside = (ends, sym (length-take-le _ _ ends)) }
 
 pub returns : goal.returns
 returns c =

@@ -21,7 +21,7 @@ overflow_add-count c = record { fits = omega (arith, c.requires.years) }
 
 pub loop-k-init : goal.loop-k-init
 unfolding lines
-loop-k-init c = (refl, omega arith, nothing _ _ c.requires.on)
+loop-k-init c = (refl, nothing _ _ c.requires.on)
 
 pub overflow_mul-k : goal.overflow_mul-k
 overflow_mul-k c = record { fits = omega (arith, c.requires.years) }
@@ -38,10 +38,7 @@ returns-in_default c =
 pub put_part-end-requires : goal.put_part-end-requires
 put_part-end-requires c =
     let l = c.loop-k in
-    record { on = omega (arith, l.invariant.0, l.invariant.2.counted.0); years = c.requires.years }
-
-pub overflow_add-k-in-loop-k : goal.overflow_add-k-in-loop-k
-overflow_add-k-in-loop-k c = record { fits = omega (arith, c.requires.years) }
+    record { on = omega (arith, l.invariant.0, l.invariant.1.counted.0); years = c.requires.years }
 
 pub loop-k-preserved : goal.loop-k-preserved
 loop-k-preserved c =
@@ -52,14 +49,13 @@ loop-k-preserved c =
     let fits : SFits w64 c.in-Value.mean = search rules in
     let mean = to_z-of_z {w = w64} {z = c.in-Value.mean} fits ∙ field in (
       line.auto.page ∙ l.invariant.0,
-      omega arith,
       in_words (lines_next (λ i. part_line (part_by_index a.last i) (signed (part_at i) a.«record».now)) l.k)
-          (both l.invariant.2 l.invariant.0 (in_words (ap (part_line (part_by_index a.last l.k)) mean) line.ensures)),
+          (both l.invariant.1 l.invariant.0 (in_words (ap (part_line (part_by_index a.last l.k)) mean) line.ensures)),
     )
 
 pub returns : goal.returns
 returns c =
     let a = c.args in
     let l = c.loop-k in
-    let all : l.k ≡ parts a.last = omega (arith, l.invariant.1, c.loop-k-test.false) in
-    in_words (ap (lines (λ i. part_line (part_by_index a.last i) (signed (part_at i) a.«record».now))) all) l.invariant.2
+    let all : l.k ≡ parts a.last = omega (arith, l.auto.k-end, c.loop-k-test.false) in
+    in_words (ap (lines (λ i. part_line (part_by_index a.last i) (signed (part_at i) a.«record».now))) all) l.invariant.1
