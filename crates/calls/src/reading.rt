@@ -15,10 +15,9 @@ fn read_full(rt: &HostRuntime, buffer: &mut [u8]) -> Result<(), Stop> {
 // The next call, where there is one.
 pub fn read_call(rt: &HostRuntime) -> Result<Call, Stop> {
     let mut letter = [0u8; 1];
-    match rt.stdin().read_exact(&mut letter) {
-        Ok(()) => Call::try_from(letter[0]),
-        Err(_) => Err(Stop::Input),
-    }
+    let read = rt.stdin().read_exact(&mut letter);
+    read.map_err(|_| Stop::Input)?;
+    Call::try_from(letter[0])
 }
 
 pub fn read_number(rt: &HostRuntime) -> Result<u64, Stop> {

@@ -17,17 +17,6 @@ fn print_numbers<T: Display + Copy>(rt: &HostRuntime, name: &str, numbers: &[T])
     println!(rt)
 }
 
-fn print_rows(rt: &HostRuntime, count: usize, matrix: [i64; 961]) -> io::Result<()>
-    requires { count ≤ 31 }
-{
-    for k in 0..count {
-        let start = 31 * k;
-        let end = start + count;
-        print_numbers(rt, "row", &matrix[start..end])?;
-    }
-    Ok(())
-}
-
 // 2J + 1, as no file that is open has J above 15.
 fn parts_of(last: usize) -> usize
     ensures { result ≤ 31 }
@@ -35,32 +24,18 @@ fn parts_of(last: usize) -> usize
     2 * last.min(15) + 1
 }
 
-// An array that is a parameter has its length in its type; one that is a field has not.
-fn print_arrays(
-    rt: &HostRuntime,
-    count: usize,
-    own: [u64; 31],
-    matrix: [i64; 961],
-    right_hand: [i64; 31],
-) -> io::Result<()>
-    requires { count ≤ 31 }
-{
-    print_numbers(rt, "own", &own[..count])?;
-    print_rows(rt, count, matrix)?;
-    print_numbers(rt, "right", &right_hand[..count])
-}
-
 fn print_system(rt: &HostRuntime, figures: Figures) -> io::Result<()> {
     let last = figures.last;
     let closeness = figures.closeness;
     println!(rt; "figures {last} {closeness}")?;
-    print_arrays(
-        rt,
-        parts_of(last),
-        figures.own,
-        figures.matrix,
-        figures.right_hand,
-    )
+    let count = parts_of(last);
+    print_numbers(rt, "own", &figures.own[..count])?;
+    for k in 0..count {
+        let start = 31 * k;
+        let end = start + count;
+        print_numbers(rt, "row", &figures.matrix[start..end])?;
+    }
+    print_numbers(rt, "right", &figures.right_hand[..count])
 }
 
 pub fn print_figures(rt: &HostRuntime, shown: Showing) -> io::Result<()> {
