@@ -13,32 +13,15 @@ use Rattle.fields.specs.Fields.{signed_read, signed_outside}
 use Rattle.text.specs.Added.{both, in_words, nothing}
 use Rattle.listing.proofs.put_parts.Goals as goal
 
-pub overflow_mul-count : goal.overflow_mul-count
-overflow_mul-count c = record { fits = omega (arith, c.requires.years) }
-
-pub overflow_add-count : goal.overflow_add-count
-overflow_add-count c = record { fits = omega (arith, c.requires.years) }
-
 pub loop-k-init : goal.loop-k-init
 unfolding lines
 loop-k-init c = (refl, nothing _ _ c.requires.on)
-
-pub overflow_mul-k : goal.overflow_mul-k
-overflow_mul-k c = record { fits = omega (arith, c.requires.years) }
-
-pub overflow_add-k : goal.overflow_add-k
-overflow_add-k c = record { fits = omega (arith, c.requires.years) }
 
 pub returns-in_default : goal.returns-in_default
 returns-in_default c =
     let k = c.loop-k.k in
     let outside = signed_outside (part_at k) c.args.«record».now c.signed_4.ensures c.in_default.is in
     absurd (omega (arith, c.requires.years, outside))
-
-pub put_part-end-requires : goal.put_part-end-requires
-put_part-end-requires c =
-    let l = c.loop-k in
-    record { on = omega (arith, l.invariant.0, l.invariant.1.counted.0); years = c.requires.years }
 
 pub loop-k-preserved : goal.loop-k-preserved
 loop-k-preserved c =
