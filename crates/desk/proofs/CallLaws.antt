@@ -1,5 +1,5 @@
 -- The contracts of what C calls follow from the session's, answer by answer.
-use Rattle.std.specs.Prelude.{ℕ, ◌≡◌, refl, ◌≢◌, List, get_or, ℤ}
+use Rattle.std.specs.Prelude.{ℕ, ◌≡◌, refl, ◌≢◌, List, get_or, ℤ, Result, Ok, Err, IsOk, IsErr}
 use Rattle.std.proofs.Common.{zero-le, sym, subst, ◌∙◌, arith}
 use Rattle.std.proofs.Math.Path.{ap}
 use Rattle.definitions.specs.Words.{part}
@@ -14,30 +14,27 @@ use Rattle.laws.proofs.Numbers as N
 use Rattle.laws.proofs.Rows.{row_inside, row_some, row_shown}
 use Rattle.readings.specs.declared.rows.RowPlace.{RowPlace}
 use Rattle.readings.specs.Rows.{Places}
+use Rattle.layout.specs.declared.refusals.Reason.{Reason}
+use Rattle.layout.specs.declared.refusals.Refusal.{Refusal as Refused}
+use Rattle.layout.specs.Refusals.{number_of}
+use Rattle.chain.specs.declared.arrays.Figures.{Figures}
+use Rattle.chain.specs.declared.judge.Judgement.{Judgement}
+use Rattle.chain.specs.declared.judge.Judgement.TheVariants as J
 use Rattle.chain.specs.Arrays.{figures_at}
 use Rattle.definitions.specs.Kept.{chain_kept, in_session}
 use Rattle.observations.specs.declared.Observations.{Observations}
 use Rattle.holding.specs.State.{Held, state_of, session_state}
 use Rattle.holding.proofs.StateLaws.{state_of_empty}
-use Rattle.opening.specs.declared.OpenAnswer.{OpenAnswer}
-use Rattle.opening.specs.declared.OpenAnswer.TheVariants as O
 use Rattle.opening.specs.Opens as OpenCall
 use Rattle.opening.specs.Opens.{of_open}
-use Rattle.judging.specs.declared.JudgeAnswer.{JudgeAnswer}
-use Rattle.judging.specs.declared.JudgeAnswer.TheVariants as J
 use Rattle.judging.specs.Judges as JudgeCall
 use Rattle.judging.specs.Judges.{of_judge}
-use Rattle.sweeping.specs.declared.SweepAnswer.{SweepAnswer}
-use Rattle.sweeping.specs.declared.SweepAnswer.TheVariants as S
+use Rattle.sweeping.specs.declared.Progress.{Progress}
+use Rattle.sweeping.specs.declared.Progress.TheVariants as S
 use Rattle.sweeping.specs.Sweeps as SweepCall
 use Rattle.sweeping.specs.Sweeps.{of_sweep}
-use Rattle.writing.specs.declared.WriteAnswer.{WriteAnswer}
-use Rattle.writing.specs.declared.WriteAnswer.TheVariants as W
 use Rattle.writing.specs.Writes as WriteCall
 use Rattle.writing.specs.Writes.{of_write, Text, writes_to}
-use Rattle.showing.specs.declared.FiguresAnswer.{FiguresAnswer}
-use Rattle.showing.specs.declared.FiguresAnswer.TheVariants as F
-use Rattle.showing.specs.declared.Showing.{Showing}
 use Rattle.showing.specs.Shows as FiguresCall
 use Rattle.showing.specs.Shows.{shows_to, FiguresOf}
 use Rattle.telling.specs.declared.Refusal.{Refusal}
@@ -45,12 +42,8 @@ use Rattle.telling.specs.declared.Judged.{Judged}
 use Rattle.telling.specs.declared.Swept.{Swept}
 use Rattle.telling.specs.declared.RowShown.{RowShown}
 use Rattle.projecting.specs.declared.Ultimate.{Ultimate}
-use Rattle.projecting.specs.declared.UltimateAnswer.{UltimateAnswer}
-use Rattle.projecting.specs.declared.UltimateAnswer.TheVariants as U
 use Rattle.projecting.specs.Projects as UltimateCall
 use Rattle.projecting.specs.Projects.{of_project, latest_with, projects_to}
-use Rattle.striking.specs.declared.StrikeAnswer.{StrikeAnswer}
-use Rattle.striking.specs.declared.StrikeAnswer.TheVariants as K
 use Rattle.striking.specs.Strikes as StrikeCall
 use Rattle.striking.specs.Strikes.{of_strike}
 use Rattle.weighing.specs.Weighs as WeighCall
@@ -66,7 +59,7 @@ never_0 listed place e = subst Listed.NumberedAnswer e listed
 
 -- ---- open
 
-pub opens_told : (s : Held) (o : Observations) (file : Bytes) (a : OpenAnswer) (t : Held) (p : Observations) → OpenCall.Opens s o file a t p
+pub opens_told : (s : Held) (o : Observations) (file : Bytes) (a : Result Unit Refused) (t : Held) (p : Observations) → OpenCall.Opens s o file a t p
     → {r : Refusal} → r ≡ refusal_told (of_open a) → Opens s o file r t p
 opens_told s o file a t p h {r} e = record {
   told = e ∙ ap refusal_told h.answer;
@@ -75,14 +68,14 @@ opens_told s o file a t p h {r} e = record {
   same = λ some. by_answer a h.same (λ none. some (ap (λ x. x.number) e ∙ none));
 }
   where
-    by_answer : (a : OpenAnswer) → ((number place : ℕ) → a ≡ O.Refused number place → (t ≡ s) × (p ≡ o))
+    by_answer : (a : Result Unit Refused) → (IsErr a → (t ≡ s) × (p ≡ o))
         → (refusal_told (of_open a)).number ≢ 0 → (t ≡ s) × (p ≡ o)
-    by_answer O.Opened same some = absurd (some refl)
-    by_answer (O.Refused number place) same some = same number place refl
+    by_answer (Ok done) same some = absurd (some refl)
+    by_answer (Err r) same some = same refl
 
 -- ---- strike
 
-pub strikes_told : (d : Step) (s : Held) (o : Observations) (a : StrikeAnswer) (t : Held) (p : Observations)
+pub strikes_told : (d : Step) (s : Held) (o : Observations) (a : Result Unit Refused) (t : Held) (p : Observations)
     → StrikeCall.Strikes d s o a t p → {r : Refusal} → r ≡ refusal_told (of_strike a) → Strikes d s o r t p
 strikes_told d s o a t p h {r} e = record {
   told = e ∙ ap refusal_told h.answer;
@@ -91,19 +84,19 @@ strikes_told d s o a t p h {r} e = record {
   same = λ some. by_answer a h.same (λ none. some (ap (λ x. x.number) e ∙ none));
 }
   where
-    by_answer : (a : StrikeAnswer) → ((number place : ℕ) → a ≡ K.Refused number place → (t ≡ s) × (p ≡ o))
+    by_answer : (a : Result Unit Refused) → ((e : Refused) → a ≡ Err e → (t ≡ s) × (p ≡ o))
         → (refusal_told (of_strike a)).number ≢ 0 → (t ≡ s) × (p ≡ o)
-    by_answer K.Struck same some = absurd (some refl)
-    by_answer (K.Refused number place) same some = same number place refl
+    by_answer (Ok done) same some = absurd (some refl)
+    by_answer (Err r) same some = same r refl
 
 -- ---- judge
 
-is_passed_lem : (a : JudgeAnswer) → (told (of_judge a)).passing ≡ 1 → a ≡ J.Passed
-is_passed_lem J.Passed e = refl
-is_passed_lem (J.Fails k) e = absurd (omega arith)
-is_passed_lem (J.Refused number place) e = absurd (omega arith)
+is_passed_lem : (a : Result Judgement Refused) → (told (of_judge a)).passing ≡ 1 → a ≡ Ok J.Passed
+is_passed_lem (Ok J.Passed) e = refl
+is_passed_lem (Ok (J.Fails k)) e = absurd (omega arith)
+is_passed_lem (Err r) e = absurd (omega arith)
 
-pub judges_told : (s : Held) (lent : Bytes) (a : JudgeAnswer) → JudgeCall.Judges s lent a → {r : Judged} → r ≡ judge_told (of_judge a)
+pub judges_told : (s : Held) (lent : Bytes) (a : Result Judgement Refused) → JudgeCall.Judges s lent a → {r : Judged} → r ≡ judge_told (of_judge a)
     → Judges s lent r
 judges_told s lent a h {r} e = record {
   told = e ∙ ap judge_told h.answer;
@@ -117,12 +110,12 @@ judges_told s lent a h {r} e = record {
 
 -- ---- sweep
 
-is_settled : (a : SweepAnswer) → (told (of_sweep a)).passing ≡ 1 → a ≡ S.Settled (sweep_told (of_sweep a)).total
-is_settled (S.Settled total) e = refl
-is_settled (S.Going total) e = absurd (omega arith)
-is_settled (S.Refused number place) e = absurd (omega arith)
+is_settled : (a : Result Progress Refused) → (told (of_sweep a)).passing ≡ 1 → a ≡ Ok (S.Settled (sweep_told (of_sweep a)).total)
+is_settled (Ok (S.Settled total)) e = refl
+is_settled (Ok (S.Going total)) e = absurd (omega arith)
+is_settled (Err r) e = absurd (omega arith)
 
-pub sweeps_told : (s : Held) (n : ℕ) (a : SweepAnswer) (t : Held) → SweepCall.Sweeps s n a t
+pub sweeps_told : (s : Held) (n : ℕ) (a : Result Progress Refused) (t : Held) → SweepCall.Sweeps s n a t
     → {r : Swept} → r ≡ sweep_told (of_sweep a) → Sweeps s n r t
 sweeps_told s n a t h {r} e = record {
   told = e ∙ ap sweep_told h.answer;
@@ -130,7 +123,7 @@ sweeps_told s n a t h {r} e = record {
   state = h.state;
   same = λ some. by_answer a h.same (λ none. some (ap (λ x. x.refusal.number) e ∙ none));
   worth = λ f μ ν total before then one.
-      h.worth f μ ν total r.total before then (is_settled a (sym flag ∙ one) ∙ ap S.Settled (sym (ap (λ x. x.total) e)));
+      h.worth f μ ν total r.total before then (is_settled a (sym flag ∙ one) ∙ ap (λ x. Ok (S.Settled x)) (sym (ap (λ x. x.total) e)));
   rounded = λ f μ ν total after before then w near.
       flag ∙ ap (λ x. (told (of_sweep x)).passing) (h.rounded f μ ν total after before then w near);
 }
@@ -138,21 +131,21 @@ sweeps_told s n a t h {r} e = record {
     flag : r.settled ≡ (told (of_sweep a)).passing
     flag = ap (λ x. x.settled) e
 
-    by_answer : (a : SweepAnswer) → ((number place : ℕ) → a ≡ S.Refused number place → t ≡ s)
+    by_answer : (a : Result Progress Refused) → ((e : Refused) → a ≡ Err e → t ≡ s)
         → (sweep_told (of_sweep a)).refusal.number ≢ 0 → t ≡ s
-    by_answer (S.Settled total) same some = absurd (some refl)
-    by_answer (S.Going total) same some = absurd (some refl)
-    by_answer (S.Refused number place) same some = same number place refl
+    by_answer (Ok (S.Settled total)) same some = absurd (some refl)
+    by_answer (Ok (S.Going total)) same some = absurd (some refl)
+    by_answer (Err r) same some = same r refl
 
 -- ---- read, page and residues
 
 -- an answer that C is told as number 0 is no refusal, as none has that number
-is_written : (a : WriteAnswer) {answer : Answer} → Numbered answer → of_write a ≡ answer → (refusal_told (of_write a)).number ≡ 0
-    → a ≡ W.Written
-is_written W.Written numbered same none = refl
-is_written (W.Refused number place) numbered same none = absurd (numbered place (sym same ∙ ap (λ n. refused n place) none))
+is_written : (a : Result Unit Refused) {answer : Answer} → Numbered answer → of_write a ≡ answer → (refusal_told (of_write a)).number ≡ 0
+    → IsOk a
+is_written (Ok done) numbered same none = refl
+is_written (Err r) numbered same none = absurd (numbered r.place (sym same ∙ ap (λ n. refused n r.place) none))
 
-pub writes_told : (size : ℕ → ℕ) (text : Text) (s : Held) (before : Bytes) (a : WriteAnswer) (after : Bytes)
+pub writes_told : (size : ℕ → ℕ) (text : Text) (s : Held) (before : Bytes) (a : Result Unit Refused) (after : Bytes)
     → WriteCall.Writes size text s before a after → {r : Refusal} → r ≡ refusal_told (of_write a) → Writes size text s before r after
 writes_told size text s before a after h {r} e = record {
   told = e ∙ ap refusal_told h.answer;
@@ -165,7 +158,7 @@ writes_told size text s before a after h {r} e = record {
     numbered : Numbered (writes_to size text (state_of s) before).answer
     numbered = never_0 (N.write_numbered itself size text (state_of s) before)
 
-pub weighs_told : (o : Observations) (s : Held) (meanRecord before : Bytes) (a : WriteAnswer) (after : Bytes)
+pub weighs_told : (o : Observations) (s : Held) (meanRecord before : Bytes) (a : Result Unit Refused) (after : Bytes)
     → WeighCall.Weighs o s meanRecord before a after → {r : Refusal} → r ≡ refusal_told (of_write a) → Weighs o s meanRecord before r after
 weighs_told o s meanRecord before a after h {r} e = record {
   told = e ∙ ap refusal_told h.answer;
@@ -180,7 +173,7 @@ weighs_told o s meanRecord before a after h {r} e = record {
 
 -- ---- ultimate
 
-pub projects_told : (o : Observations) (s : Held) (year : ℕ) (a : UltimateAnswer) → UltimateCall.Projects o s year a
+pub projects_told : (o : Observations) (s : Held) (year : ℕ) (a : Result Ultimate Refused) → UltimateCall.Projects o s year a
     → {r : Projected} → r ≡ ultimate_told (of_project a) → Projects o s year r
 projects_told o s year a h {r} e = record {
   told = e ∙ ap ultimate_told h.answer;
@@ -203,30 +196,22 @@ projects_told o s year a h {r} e = record {
         Divided (numerator F.last (latest_with o F) year (part μ)) (figure_of r)
         × (r.divisor ≡ both_variances F.last (latest_with o F) year)
 
-    central : (a : UltimateAnswer) → of_project a ≡ projects_to o (state_of s) year → (refusal_told (of_project a)).number ≡ 0
-        → (u : Ultimate) × (a ≡ U.Central u)
-    central (U.Central u) same done = (u, refl)
-    central (U.Refused number place) same done = absurd (numbered place (sym same ∙ ap (λ n. refused n place) done))
+    central : (a : Result Ultimate Refused) → of_project a ≡ projects_to o (state_of s) year → (refusal_told (of_project a)).number ≡ 0
+        → (u : Ultimate) × (a ≡ Ok u)
+    central (Ok u) same done = (u, refl)
+    central (Err r) same done = absurd (numbered r.place (sym same ∙ ap (λ n. refused n r.place) done))
 
 -- ---- figures
 
-shown_refused : {place : ℕ} → ◌≡◌ {A = FiguresAnswer} F.Shown (F.Refused 0 place) → ⊥
-shown_refused e = let z : ◌≡◌ {A = ℕ} 0 1 = cc in omega arith
+-- no reason has the number 0
+reason_numbered : (reason : Reason) → number_of reason ≢ 0
+reason_numbered reason e = ?
 
-shown_numbered : (st : State D.Figures) (place : ℕ) → (shows_to st).answer ≢ F.Refused 0 place
-unfolding shows_to
-shown_numbered empty place e = let none : ◌≡◌ {A = ℕ} 21 0 = ap (λ x. (figures_told x).number) e in omega arith
-shown_numbered (holds F μ total) place e = shown_refused e
-
-pub shows_told : (s : Held) (a : Showing) → FiguresCall.Shows s a → {r : System} → r ≡ system_told a → Shows s r
+pub shows_told : (s : Held) (a : Result Figures Refused) → FiguresCall.Shows s a → {r : System} → r ≡ system_told a → Shows s r
 shows_told s a h {r} e = record {
   told = e ∙ ap system_told h.shown;
-  numbered = shown_numbered (state_of s);
-  of_file = λ f μ total open-file.
-      let of = h.of_file f μ total open-file in (
-        ap (λ x. x.refusal.number) e ∙ ap (λ x. (figures_told x).number) of.0,
-        subst (λ x. FiguresOf f (figures_at x.last x.closeness x.own x.matrix x.right_hand)) (sym e) of.1,
-      );
+  numbered = λ x _. reason_numbered x.reason;
+  of_file = ?;
 }
 
 -- ---- close

@@ -19,7 +19,6 @@ use Rattle.opening.specs.Opens.{opens_to}
 use Rattle.judging.specs.Judges.{judges_to}
 use Rattle.sweeping.specs.Sweeps.{sweeps_to}
 use Rattle.writing.specs.Writes.{Text, writes_to}
-use Rattle.showing.specs.declared.FiguresAnswer.TheVariants.{Refused}
 use Rattle.showing.specs.Shows.{shows_to}
 use Rattle.showing.proofs.ShowLaws.{entry_at}
 use Rattle.telling.specs.declared.Refusal.{Refusal}
@@ -117,7 +116,7 @@ module _ (s : Held) (r : System) (call : Shows s r) where
   unfolding shows_to
   none_shown none = call.told ∙ ap (λ st. system_told (shows_to st)) none
 
-  pub figures_numbered : (place : ℕ) → (shows_to (state_of s)).answer ≢ Refused 0 place
+  pub figures_numbered : (e : Refused) → shows_to (state_of s) ≡ Err e → number_of e.reason ≢ 0
   figures_numbered = call.numbered
 
   module _ (F : Figures) (μ : List ℤ) (count : ℕ) (some : state_of s ≡ holds F μ count) where

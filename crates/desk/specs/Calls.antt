@@ -1,6 +1,6 @@
 -- The contracts of what C calls, over the session before and after. What C gets is told of the machine's answer and of nothing
 -- else; a call that is refused leaves the session as it was; and C's callers have both halves of demand 3.
-use Rattle.std.specs.Prelude.{ℕ, ◌+◌, ◌≤◌, ◌<◌, ◌≡◌, ◌≢◌, ◌↔◌, true, List, ℤ, length, take, drop}
+use Rattle.std.specs.Prelude.{ℕ, ◌+◌, ◌≤◌, ◌<◌, ◌≡◌, ◌≢◌, ◌↔◌, true, List, ℤ, length, take, drop, Err}
 use Rattle.definitions.specs.Words.{within, part}
 use Rattle.definitions.specs.Layout.{Bytes, last_year, closeness, parts, record_length, mean_of}
 use Rattle.definitions.specs.Refusals.{clear, refuses, row_check, record_check}
@@ -13,6 +13,8 @@ use Rattle.definitions.specs.Ultimate.{Ultimate, Divided, numerator, both_varian
 use Rattle.definitions.specs.Machine.{Answer, refused, empty, holds, row_part, record_in, page_in}
 use Rattle.definitions.specs.Kept.{kept_of}
 use Rattle.definitions.specs.Guarantee.{Guarantee, Rounded}
+use Rattle.layout.specs.declared.refusals.Refusal.{Refusal as Refused}
+use Rattle.layout.specs.Refusals.{number_of}
 use Rattle.chain.specs.Arrays.{figures_at}
 use Rattle.observations.specs.declared.Observations.{Observations}
 use Rattle.observations.specs.Arrays.{observations_at}
@@ -21,7 +23,6 @@ use Rattle.opening.specs.Opens.{opens_to}
 use Rattle.judging.specs.Judges.{judges_to}
 use Rattle.sweeping.specs.Sweeps.{sweeps_to}
 use Rattle.writing.specs.Writes.{Text, writes_to}
-use Rattle.showing.specs.declared.FiguresAnswer.TheVariants.{Refused}
 use Rattle.showing.specs.Shows.{shows_to, FiguresOf}
 use Rattle.projecting.specs.Projects.{latest_with, projects_to}
 use Rattle.striking.specs.Strikes.{strikes_to}
@@ -119,7 +120,7 @@ WeighsLent ticks weights struck s meanRecord before r after =
 
 pub record Shows (s : Held) (r : System) : Type 0 where
   pub told : r ≡ system_told (shows_to (state_of s))
-  pub numbered : (place : ℕ) → (shows_to (state_of s)).answer ≢ Refused 0 place
+  pub numbered : (e : Refused) → shows_to (state_of s) ≡ Err e → number_of e.reason ≢ 0
   pub of_file : (f : StruckFile) (μ : List ℤ) (total : ℕ) → HoldsFile s f μ total
       → (r.refusal.number ≡ 0) × FiguresOf f (figures_at r.last r.closeness r.own r.matrix r.right_hand)
 

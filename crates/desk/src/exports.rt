@@ -3,15 +3,14 @@ ghost use Rattle.observations.specs.Arrays.{observations_at};
 ghost use Rattle.holding.specs.State.{held_in};
 ghost use Rattle.desk.specs.Calls.{Opens, StrikesLent, Judges, Sweeps, Reads, Pages, ProjectsLent, WeighsLent, Shows, Closes, ShowsRow};
 
-use layout::checks::Check;
 use readings::rows::{row_place, row_told};
 use session::lent::{
     figures_lent, judge_lent, open_lent, page_lent, read_lent, residues_lent, strike_lent,
     sweep_lent, ultimate_lent,
 };
 use telling::{
-    Judged, Projected, Refusal, RowShown, Swept, System, judge_told, open_told, strike_told,
-    sweep_told, system_told, ultimate_told, write_told,
+    Judged, NONE, Projected, Refusal, RowShown, Swept, System, done_told, judge_told, row_as, sweep_told,
+    system_told, ultimate_told,
 };
 
 // 22, then 1 to 10.
@@ -35,7 +34,7 @@ pub extern "C" fn desk_open_lent<'a>(
         (held_in held.new own.new matrix.new right_hand.new mean.new)
         (observations_at ticks.new weights.new variances.new struck.new) }
 {
-    open_told(open_lent(
+    done_told(open_lent(
         held, own, matrix, right_hand, mean, ticks, weights, variances, struck, file,
     ))
 }
@@ -113,7 +112,7 @@ pub extern "C" fn desk_read_lent<'a>(
         (held_in held.now own.now matrix.now right_hand.now mean.now)
         buffer.old result buffer.new }
 {
-    write_told(read_lent(
+    done_told(read_lent(
         held[0] as usize,
         held[1],
         held[2],
@@ -139,7 +138,7 @@ pub extern "C" fn desk_page_lent<'a>(
         (held_in held.now own.now matrix.now right_hand.now mean.now)
         buffer.old result buffer.new }
 {
-    write_told(page_lent(
+    done_told(page_lent(
         held[0] as usize,
         held[1],
         held[2],
@@ -202,7 +201,7 @@ pub extern "C" fn desk_strike_lent<'a>(
         (held_in held.new own.new matrix.new right_hand.new mean.new)
         ticks.new weights.new struck.new }
 {
-    strike_told(strike_lent(
+    done_told(strike_lent(
         held, own, matrix, right_hand, mean, ticks, weights, struck, channel, year, column,
     ))
 }
@@ -225,7 +224,7 @@ pub extern "C" fn desk_residues_lent<'a>(
         (held_in held.now own.now matrix.now right_hand.now mean.now)
         «record».now buffer.old result buffer.new }
 {
-    write_told(residues_lent(
+    done_told(residues_lent(
         held[0] as usize,
         held[1],
         held[2],
@@ -279,26 +278,9 @@ pub extern "C" fn desk_close_lent(held: &mut [u64; 3])
 pub extern "C" fn desk_row(file: &[u8], channel: u64, year: u64) -> RowShown
     ensures { ShowsRow file.now channel year result }
 {
-    let told = row_told(file, channel as usize, year as usize);
-    if let Check::Refuses(number, place) = told {
-        let refusal = Refusal {
-            number: number,
-            place: place as u64,
-        };
-        return RowShown {
-            refusal: refusal,
-            start: 0,
-            length: 0,
-        };
+    if let Err(refusal) = row_told(file, channel as usize, year as usize) {
+        return row_as(refusal.into(), 0, 0);
     }
     let found = row_place(file, channel as usize, year as usize);
-    let done = Refusal {
-        number: 0,
-        place: 0,
-    };
-    RowShown {
-        refusal: done,
-        start: found.start as u64,
-        length: found.length as u64,
-    }
+    row_as(NONE, found.start, found.length)
 }

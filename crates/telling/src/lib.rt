@@ -85,7 +85,7 @@ impl From<refusals::Refusal> for Refusal {
 }
 
 // The call did its job.
-const NONE: Refusal = Refusal {
+pub const NONE: Refusal = Refusal {
     number: 0,
     place: 0,
 };
@@ -118,6 +118,16 @@ fn projected_as(refusal: Refusal, floor: i64, remainder: u64, divisor: u64) -> P
         floor,
         remainder,
         divisor,
+    }
+}
+
+pub fn row_as(refusal: Refusal, start: usize, length: usize) -> RowShown
+    ensures { result ≡ record { refusal = refusal; start = start; length = length } }
+{
+    RowShown {
+        refusal,
+        start: start as u64,
+        length: length as u64,
     }
 }
 
