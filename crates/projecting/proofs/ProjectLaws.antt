@@ -28,12 +28,6 @@ use Rattle.projecting.proofs.CentralLaws.{divisor_some}
 use Rattle.projecting.specs.Projects.{of_ultimate, of_project, latest_with, projects_to, Projects}
 use Rattle.projecting.specs.ProjectLaws.{Answered}
 
-refused_answered : {number place : ℕ} {u : U.Ultimate} → refused number place ≡ ultimate_is u → ⊥
-refused_answered e = let z : ◌≡◌ {A = ℕ} 0 1 = cc in omega arith
-
-figure_same : {u v : U.Ultimate} → ultimate_is u ≡ ultimate_is v → v ≡ u
-figure_same e = cc
-
 module _ (o : Observations) (F : D.Figures) (μ : List ℤ) (total year : ℕ) (u : U.Ultimate) where
   abbrev figure : U.Ultimate
   figure = ultimate_of F.last (latest_with o F) year (part μ)
@@ -44,9 +38,9 @@ module _ (o : Observations) (F : D.Figures) (μ : List ℤ) (total year : ℕ) (
     where
       by_tests : (p t : Bool) → passes F (part μ) ≡ p → within 1 F.last year ≡ t
           → cond (not p) (refused 24 0) (cond (not t) (refused 25 0) (ultimate_is figure)) ≡ ultimate_is u → Answered o F μ year u
-      by_tests false t p-is t-is e = absurd (refused_answered e)
-      by_tests true false p-is t-is e = absurd (refused_answered e)
-      by_tests true true p-is t-is e = record { passing = p-is; year_there = within_yes 1 F.last year (rw t-is tt); is = figure_same e }
+      by_tests false t p-is t-is e = cc
+      by_tests true false p-is t-is e = cc
+      by_tests true true p-is t-is e = record { passing = p-is; year_there = within_yes 1 F.last year (rw t-is tt); is = cc }
 
 module _ (o : Observations) (s : Held) (year : ℕ) where
   projects_as : (r : Result Ultimate Refusal) → of_project r ≡ projects_to o (state_of s) year → Projects o s year r
