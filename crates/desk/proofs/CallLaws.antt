@@ -1,12 +1,12 @@
 -- The contracts of what C calls follow from the session's, answer by answer.
-use Rattle.std.specs.Prelude.{ℕ, ◌≡◌, refl, ◌≢◌, List, get_or, ℤ, Result, Ok, Err, IsOk, IsErr}
+use Rattle.std.specs.Prelude.{ℕ, ◌≡◌, refl, ◌≢◌, List, get_or, ℤ, Result, Ok, Err, IsOk, IsErr, IsOkAnd}
 use Rattle.std.proofs.Common.{zero-le, sym, subst, ◌∙◌, arith}
 use Rattle.std.proofs.Math.Path.{ap}
 use Rattle.definitions.specs.Words.{part}
 use Rattle.definitions.specs.Layout.{Bytes, last_year}
 use Rattle.definitions.specs.Refusals.{clear, refuses, row_check}
 use Rattle.definitions.specs.Matrix as D
-use Rattle.definitions.specs.Strikes.{Step}
+use Rattle.definitions.specs.Strikes.{Step, StruckFile}
 use Rattle.definitions.specs.Ultimate.{Divided, numerator, both_variances}
 use Rattle.definitions.specs.Machine.{Answer, refused, State, empty, holds, row_part}
 use Rattle.laws.specs.Numbers as Listed
@@ -211,8 +211,16 @@ pub shows_told : (s : Held) (a : Result Figures Refused) → FiguresCall.Shows s
 shows_told s a h {r} e = record {
   told = e ∙ ap system_told h.shown;
   numbered = λ x _. reason_numbered x.reason;
-  of_file = ?;
+  of_file = λ f μ total open-file. of_answer f a e (h.of_file f μ total open-file);
 }
+  where
+    of_answer : (f : StruckFile) (a : Result Figures Refused) → r ≡ system_told a → IsOkAnd a (λ F. FiguresOf f F)
+        → (r.refusal.number ≡ 0) × FiguresOf f (figures_at r.last r.closeness r.own r.matrix r.right_hand)
+    of_answer f (Ok F) e h = (
+      ap (λ x. x.refusal.number) e,
+      subst (λ x. FiguresOf f (figures_at x.last x.closeness x.own x.matrix x.right_hand)) (sym e) h,
+    )
+    of_answer f (Err x) e h = cc
 
 -- ---- close
 
