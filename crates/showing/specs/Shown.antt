@@ -14,11 +14,14 @@ use Rattle.chain.specs.Arrays.{cell}
 pub record OfParts (count : ℕ) : Type 0 where
   pub few : count ≤ 31
 
+abbrev pub front_shown : {A : Type 0} → ℕ → A → List A → List A
+front_shown count empty v = tab_from 0 31 (λ k. get_or (tab_from 0 count (λ i. get_or v i empty)) k empty)
+
 abbrev pub own_shown : ℕ → List ℕ → List ℕ
-own_shown count D = tab_from 0 31 (λ k. get_or (tab_from 0 count (λ i. get_or D i 0)) k 0)
+own_shown count D = front_shown count 0 D
 
 abbrev pub right_hand_shown : ℕ → List ℤ → List ℤ
-right_hand_shown count b = tab_from 0 31 (part (tab_from 0 count (part b)))
+right_hand_shown count b = front_shown count (pos 0) b
 
 unfoldable pub entry_shown : ℕ → List ℤ → ℕ → ℤ
 entry_shown count A c = part (get_or (tab_from 0 count (λ k. tab_from 0 count (cell A k))) (c / 31) []) (c % 31)

@@ -1,15 +1,15 @@
 -- The contract of figures. The machine has no such call: what is shown of its state is defined here.
-use Rattle.std.specs.Prelude.{ℕ, ◌+◌, ◌*◌, ◌/◌, ◌%◌, ◌<◌, ◌≡◌, List, ℤ, pos, get_or, replicate}
+use Rattle.std.specs.Prelude.{ℕ, ◌+◌, ◌*◌, ◌/◌, ◌%◌, ◌<◌, ◌≡◌, List, ℤ, pos, get_or, replicate, Result, Ok, Err, IsOkAnd}
 use Rattle.definitions.specs.Words.{part, tab_from}
 use Rattle.definitions.specs.Layout.{last_year, closeness, parts}
 use Rattle.definitions.specs.Matrix as D
 use Rattle.definitions.specs.Matrix.{entry}
 use Rattle.definitions.specs.Strikes.{StruckFile, chain_left}
 use Rattle.definitions.specs.Machine.{State, empty, holds}
+use Rattle.layout.specs.declared.refusals.Reason.TheVariants.{NothingOpen}
+use Rattle.layout.specs.declared.refusals.Refusal.{Refusal}
 use Rattle.chain.specs.declared.arrays.Figures.{Figures}
 use Rattle.holding.specs.State.{Held, state_of, HoldsFile}
-use Rattle.showing.specs.declared.FiguresAnswer.TheVariants.{Shown, Refused}
-use Rattle.showing.specs.declared.Showing.{Showing}
 
 -- Each array has 0 behind its parts; row k, column l of the matrix is at 31·k + l.
 abbrev pub in_arrays : D.Figures → Figures
@@ -21,6 +21,7 @@ in_arrays F = record {
   right_hand = tab_from 0 31 (part F.right_hand_side);
 }
 
+-- what stands for figures where none are shown
 abbrev pub no_figures : Figures
 no_figures = record {
   last = 0;
@@ -30,9 +31,9 @@ no_figures = record {
   right_hand = replicate 31 (pos 0);
 }
 
-unfoldable pub shows_to : State D.Figures → Showing
-shows_to empty = record { answer = Refused 21 0; figures = no_figures }
-shows_to (holds F μ total) = record { answer = Shown; figures = in_arrays F }
+unfoldable pub shows_to : State D.Figures → Result Figures Refusal
+shows_to empty = Err (record { reason = NothingOpen; place = 0 })
+shows_to (holds F μ total) = Ok (in_arrays F)
 
 -- the figures of a file, part by part
 pub record FiguresOf (f : StruckFile) (F : Figures) : Type 0 where
@@ -43,7 +44,7 @@ pub record FiguresOf (f : StruckFile) (F : Figures) : Type 0 where
       → part F.matrix (31 * k + l) ≡ D.matrix (chain_left f) k l
   pub right_hand : (k : ℕ) → k < parts (last_year f.file) → part F.right_hand k ≡ D.right_hand_side (chain_left f) k
 
-pub record Shows (s : Held) (r : Showing) : Type 0 where
+pub record Shows (s : Held) (r : Result Figures Refusal) : Type 0 where
   pub shown : r ≡ shows_to (state_of s)
   -- the very figures that judge the means of an open file
-  pub of_file : (f : StruckFile) (μ : List ℤ) (total : ℕ) → HoldsFile s f μ total → (r.answer ≡ Shown) × FiguresOf f r.figures
+  pub of_file : (f : StruckFile) (μ : List ℤ) (total : ℕ) → HoldsFile s f μ total → IsOkAnd r (λ F. FiguresOf f F)

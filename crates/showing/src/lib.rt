@@ -4,26 +4,13 @@
 ghost use Rattle.holding.specs.State.{held_at};
 ghost use Rattle.showing.specs.Shows.{Shows};
 
-use crate::shown::{answer_shown, closeness_shown, own_shown, parts_shown, right_hand_shown};
+use crate::shown::{front, parts_shown};
 use chain::arrays::Figures;
+use layout::refusals::{Reason, Refusal};
 
 mod shown;
 
-#[derive(Drop)]
-pub enum FiguresAnswer {
-    Shown,
-    // The specification's number and place.
-    Refused(u64, usize),
-}
-
-// An answer, with the figures that are shown: the matrix whole, and zeros outside the parts 0..2J. All are 0 where it is refused.
-#[derive(Drop)]
-pub struct Showing {
-    pub answer: FiguresAnswer,
-    pub figures: Figures,
-}
-
-// 21. The session is as it was. With no part shown every number is 0, so that a refusal takes the same way: the matrix is copied once.
+// 21. The session is as it was. The matrix is shown whole, and zeros outside the parts 0..2J.
 pub fn figures_lent<'a>(
     last: usize,
     closeness: u64,
@@ -32,13 +19,13 @@ pub fn figures_lent<'a>(
     matrix: &'a [i64; 961],
     right_hand: &'a [i64; 31],
     mean: &'a [i64; 31],
-) -> Showing
+) -> Result<Figures, Refusal>
     ensures { Shows
         (held_at last closeness total own.now matrix.now right_hand.now mean.now)
         result }
 {
     let mut entries = [0i64; 961];
-    let count = parts_shown(
+    let Some(count) = parts_shown(
         last,
         closeness,
         total,
@@ -47,19 +34,16 @@ pub fn figures_lent<'a>(
         right_hand,
         mean,
         &mut entries,
-    );
-    let answer = answer_shown(count);
-    let weights = own_shown(count, own);
-    let targets = right_hand_shown(count, right_hand);
-    let shown = Figures {
-        last: count / 2,
-        closeness: closeness_shown(count, closeness),
+    ) else {
+        return Err(Reason::NothingOpen.at(0));
+    };
+    let weights = front(count, own, 0);
+    let targets = front(count, right_hand, 0);
+    Ok(Figures {
+        last,
+        closeness,
         own: weights,
         matrix: entries,
         right_hand: targets,
-    };
-    Showing {
-        answer: answer,
-        figures: shown,
-    }
+    })
 }

@@ -1,13 +1,21 @@
--- `figures_lent` meets its contract: what it makes of the parts that are shown is what the state shows.
-use Rattle.showing.proofs.ShowLaws.{shows_parts}
+-- `figures_lent` meets its contract: what it makes of the parts of an open file is what the state shows.
+use native.Mathlib.Omega.{arith}
+use Rattle.holding.specs.Fitted.{frame}
+use Rattle.showing.proofs.ShowLaws.{shows_open, shows_closed}
 use Rattle.showing.proofs.figures_lent.Goals as goal
+
+pub returns-in_default : goal.returns-in_default
+returns-in_default c = rw c.at.ensures (shows_closed _ c.in_default.ensures)
+
+pub front-weights-requires : goal.front-weights-requires
+front-weights-requires c =
+    (omega arith, record { few = omega (arith, c.in-Some.ensures.all, (frame c.in-Some.ensures.fits).years) })
+
+pub front-targets-requires : goal.front-targets-requires
+front-targets-requires c =
+    (omega arith, record { few = omega (arith, c.in-Some.ensures.all, (frame c.in-Some.ensures.fits).years) })
 
 pub returns : goal.returns
 returns c =
-    rw (
-      c.answer_shown-answer.ensures,
-      c.closeness_shown.ensures,
-      c.own_shown-weights.ensures,
-      c.right_hand_shown-targets.ensures,
-      c.parts_shown-count.ensures.is,
-    ) (shows_parts _ c.parts_shown-count.ensures)
+    let open_file = c.in-Some.ensures in
+    rw (c.front-weights.ensures, c.front-targets.ensures, open_file.is, open_file.all) (shows_open _ open_file.fits)
