@@ -21,53 +21,29 @@ use crate::lent::{
 };
 use crate::state::empty;
 use chain::arrays::Figures;
-use observations::Observations;
 
 // 22, then 1 to 10.
 pub fn open(s: Session, file: &[u8]) -> Outcome<()>
     ensures { Opens (held_by s) s.observations file.now result.answer (held_by result.session) result.session.observations }
 {
+    let mut s = s;
     let mut held = [s.figures.last as u64, s.figures.closeness, s.total];
-    let mut own = s.figures.own;
-    let mut matrix = s.figures.matrix;
-    let mut right_hand = s.figures.right_hand;
-    let mut mean = s.mean;
-    let mut ticks = s.observations.ticks;
-    let mut weights = s.observations.weights;
-    let mut variances = s.observations.variances;
-    let mut struck = s.observations.struck;
     let answer = open_lent(
         &mut held,
-        &mut own,
-        &mut matrix,
-        &mut right_hand,
-        &mut mean,
-        &mut ticks,
-        &mut weights,
-        &mut variances,
-        &mut struck,
+        &mut s.figures.own,
+        &mut s.figures.matrix,
+        &mut s.figures.right_hand,
+        &mut s.mean,
+        &mut s.observations.ticks,
+        &mut s.observations.weights,
+        &mut s.observations.variances,
+        &mut s.observations.struck,
         file,
     );
-    Outcome {
-        answer,
-        session: Session {
-            observations: Observations {
-                ticks: ticks,
-                weights: weights,
-                variances: variances,
-                struck: struck,
-            },
-            figures: Figures {
-                last: held[0] as usize,
-                closeness: held[1],
-                own: own,
-                matrix: matrix,
-                right_hand: right_hand,
-            },
-            mean: mean,
-            total: held[2],
-        },
-    }
+    s.figures.last = held[0] as usize;
+    s.figures.closeness = held[1];
+    s.total = held[2];
+    Outcome { answer, session: s }
 }
 
 // 21, then 1, 2, 4 and 11.
@@ -91,27 +67,19 @@ pub fn sweep(s: Session, n: u64) -> Outcome<Progress>
     ensures sweeps { Sweeps (held_by s) n result.answer (held_by result.session) }
     ensures observations_value { result.session.observations ≡ s.observations }
 {
-    let observations = s.observations;
-    let figures = s.figures;
-    let mut mean = s.mean;
-    let mut total = s.total;
+    let mut s = s;
+    let lent = &mut s;
     let answer = sweep_lent(
-        figures.last,
-        figures.closeness,
-        &figures.own,
-        &figures.matrix,
-        &figures.right_hand,
-        &mut mean,
-        &mut total,
+        lent.figures.last,
+        lent.figures.closeness,
+        &lent.figures.own,
+        &lent.figures.matrix,
+        &lent.figures.right_hand,
+        &mut lent.mean,
+        &mut lent.total,
         n,
     );
-    let session = Session {
-        observations: observations,
-        figures: figures,
-        mean: mean,
-        total: total,
-    };
-    Outcome { answer, session }
+    Outcome { answer, session: s }
 }
 
 // 21, 24, 13. The record at the front of the buffer; the bytes behind it stay.
@@ -169,48 +137,25 @@ pub fn strike(s: Session, channel: u64, year: u64, column: u64) -> Outcome<()>
     ensures { Strikes (step channel year column) (held_by s) s.observations result.answer
         (held_by result.session) result.session.observations }
 {
+    let mut s = s;
     let mut held = [s.figures.last as u64, s.figures.closeness, s.total];
-    let mut own = s.figures.own;
-    let mut matrix = s.figures.matrix;
-    let mut right_hand = s.figures.right_hand;
-    let mut mean = s.mean;
-    let mut ticks = s.observations.ticks;
-    let mut weights = s.observations.weights;
-    let variances = s.observations.variances;
-    let mut struck = s.observations.struck;
     let answer = strike_lent(
         &mut held,
-        &mut own,
-        &mut matrix,
-        &mut right_hand,
-        &mut mean,
-        &mut ticks,
-        &mut weights,
-        &mut struck,
+        &mut s.figures.own,
+        &mut s.figures.matrix,
+        &mut s.figures.right_hand,
+        &mut s.mean,
+        &mut s.observations.ticks,
+        &mut s.observations.weights,
+        &mut s.observations.struck,
         channel,
         year,
         column,
     );
-    Outcome {
-        answer,
-        session: Session {
-            observations: Observations {
-                ticks: ticks,
-                weights: weights,
-                variances: variances,
-                struck: struck,
-            },
-            figures: Figures {
-                last: held[0] as usize,
-                closeness: held[1],
-                own: own,
-                matrix: matrix,
-                right_hand: right_hand,
-            },
-            mean: mean,
-            total: held[2],
-        },
-    }
+    s.figures.last = held[0] as usize;
+    s.figures.closeness = held[1];
+    s.total = held[2];
+    Outcome { answer, session: s }
 }
 
 // 21, then 1, 2, 4, 11, then 13. The residues of the record's mean at the front of the buffer; the bytes behind them stay.
