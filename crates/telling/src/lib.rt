@@ -175,13 +175,16 @@ pub fn ultimate_told(a: Result<Ultimate, refusals::Refusal>) -> Projected
 fn system_of(refusal: Refusal, figures: Figures) -> System
     ensures { result ≡ system_of refusal figures }
 {
+    let own = figures.own;
+    let matrix = figures.matrix;
+    let right_hand = figures.right_hand;
     System {
         refusal,
         last: figures.last as u64,
         closeness: figures.closeness,
-        own: figures.own,
-        matrix: figures.matrix,
-        right_hand: figures.right_hand,
+        own,
+        matrix,
+        right_hand,
     }
 }
 
