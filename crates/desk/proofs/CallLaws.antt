@@ -8,13 +8,14 @@ use Rattle.definitions.specs.Refusals.{clear, refuses, row_check}
 use Rattle.definitions.specs.Matrix as D
 use Rattle.definitions.specs.Strikes.{Step, StruckFile}
 use Rattle.definitions.specs.Ultimate.{Divided, numerator, both_variances}
-use Rattle.definitions.specs.Machine.{Answer, refused, State, empty, holds, row_part}
+use Rattle.definitions.specs.Machine.{Answer, refused, row_part}
 use Rattle.laws.specs.Numbers as Listed
 use Rattle.laws.proofs.Numbers as N
 use Rattle.laws.proofs.Rows.{row_inside, row_some, row_shown}
 use Rattle.readings.specs.declared.rows.RowPlace.{RowPlace}
 use Rattle.readings.specs.Rows.{Places}
 use Rattle.layout.specs.declared.refusals.Reason.{Reason}
+use Rattle.layout.specs.declared.refusals.Reason.TheVariants as R
 use Rattle.layout.specs.declared.refusals.Refusal.{Refusal as Refused}
 use Rattle.layout.specs.Refusals.{number_of}
 use Rattle.chain.specs.declared.arrays.Figures.{Figures}
@@ -50,7 +51,7 @@ use Rattle.weighing.specs.Weighs as WeighCall
 use Rattle.weighing.specs.Weighs.{weighs_to}
 use Rattle.telling.specs.declared.System.{System}
 use Rattle.telling.specs.declared.Projected.{Projected}
-use Rattle.telling.specs.Told.{none, told, refusal_told, judge_told, sweep_told, told_of_row, figures_told, system_told, ultimate_told}
+use Rattle.telling.specs.Told.{none, told, refusal_told, judge_told, sweep_told, told_of_row, system_told, ultimate_told}
 use Rattle.desk.specs.Calls.{Numbered, Opens, Strikes, Judges, Sweeps, Writes, figure_of, Projects, Weighs, Shows, Closes, ShowsRow}
 use Rattle.desk.specs.CallLaws.{itself}
 
@@ -142,8 +143,8 @@ sweeps_told s n a t h {r} e = record {
 -- an answer that C is told as number 0 is no refusal, as none has that number
 is_written : (a : Result Unit Refused) {answer : Answer} → Numbered answer → of_write a ≡ answer → (refusal_told (of_write a)).number ≡ 0
     → IsOk a
-is_written (Ok done) numbered same none = refl
-is_written (Err r) numbered same none = absurd (numbered r.place (sym same ∙ ap (λ n. refused n r.place) none))
+is_written (Ok done) numbered same no_number = refl
+is_written (Err r) numbered same no_number = absurd (numbered r.place (sym same ∙ ap (λ n. refused n r.place) no_number))
 
 pub writes_told : (size : ℕ → ℕ) (text : Text) (s : Held) (before : Bytes) (a : Result Unit Refused) (after : Bytes)
     → WriteCall.Writes size text s before a after → {r : Refusal} → r ≡ refusal_told (of_write a) → Writes size text s before r after
@@ -205,7 +206,28 @@ projects_told o s year a h {r} e = record {
 
 -- no reason has the number 0
 reason_numbered : (reason : Reason) → number_of reason ≢ 0
-reason_numbered reason e = ?
+reason_numbered R.Length e = absurd (omega arith)
+reason_numbered R.Version e = absurd (omega arith)
+reason_numbered R.LastYear e = absurd (omega arith)
+reason_numbered R.LengthForYear e = absurd (omega arith)
+reason_numbered R.Closeness e = absurd (omega arith)
+reason_numbered R.Variance e = absurd (omega arith)
+reason_numbered R.PriorVariance e = absurd (omega arith)
+reason_numbered R.PriorMean e = absurd (omega arith)
+reason_numbered R.Amount e = absurd (omega arith)
+reason_numbered R.LastAmounts e = absurd (omega arith)
+reason_numbered R.Part e = absurd (omega arith)
+reason_numbered R.Sweeps e = absurd (omega arith)
+reason_numbered R.Buffer e = absurd (omega arith)
+reason_numbered R.Channel e = absurd (omega arith)
+reason_numbered R.Row e = absurd (omega arith)
+reason_numbered R.NothingOpen e = absurd (omega arith)
+reason_numbered R.FileOpen e = absurd (omega arith)
+reason_numbered R.Spent e = absurd (omega arith)
+reason_numbered R.NotPassed e = absurd (omega arith)
+reason_numbered R.UltimateYear e = absurd (omega arith)
+reason_numbered R.Step e = absurd (omega arith)
+reason_numbered R.LastStep e = absurd (omega arith)
 
 pub shows_told : (s : Held) (a : Result Figures Refused) → FiguresCall.Shows s a → {r : System} → r ≡ system_told a → Shows s r
 shows_told s a h {r} e = record {
@@ -220,7 +242,7 @@ shows_told s a h {r} e = record {
       ap (λ x. x.refusal.number) e,
       subst (λ x. FiguresOf f (figures_at x.last x.closeness x.own x.matrix x.right_hand)) (sym e) h,
     )
-    of_answer f (Err x) e h = cc
+    of_answer f (Err x) e h = absurd h
 
 -- ---- close
 

@@ -1,5 +1,5 @@
 -- What C's callers can count on, in plain numbers, each drawn from the contract of a call alone.
-use Rattle.std.specs.Prelude.{ℕ, ◌+◌, ◌*◌, ◌≤◌, ◌<◌, ◌≡◌, ◌≢◌, ◌↔◌, true, List, ◌++◌, ℤ, pos, length, take, drop, replicate}
+use Rattle.std.specs.Prelude.{Err, ℕ, ◌+◌, ◌*◌, ◌≤◌, ◌<◌, ◌≡◌, ◌≢◌, ◌↔◌, true, List, ◌++◌, ℤ, pos, length, take, drop, replicate}
 use Rattle.std.proofs.Math.Path.{refl, ap}
 use Rattle.std.proofs.Common.{◌∙◌}
 use borrow.Author.Tests.{lt-ltb, le-ltb}
@@ -21,6 +21,8 @@ use Rattle.sweeping.specs.Sweeps.{sweeps_to}
 use Rattle.writing.specs.Writes.{Text, writes_to}
 use Rattle.showing.specs.Shows.{shows_to}
 use Rattle.showing.proofs.ShowLaws.{entry_at}
+use Rattle.layout.specs.declared.refusals.Refusal.{Refusal as Refused}
+use Rattle.layout.specs.Refusals.{number_of}
 use Rattle.telling.specs.declared.Refusal.{Refusal}
 use Rattle.telling.specs.declared.Judged.{Judged}
 use Rattle.telling.specs.declared.Swept.{Swept}

@@ -9,8 +9,8 @@ use session::lent::{
     sweep_lent, ultimate_lent,
 };
 use telling::{
-    Judged, NONE, Projected, Refusal, RowShown, Swept, System, done_told, judge_told, row_as, sweep_told,
-    system_told, ultimate_told,
+    Judged, NONE, Projected, Refusal, RowShown, Swept, System, done_told, judge_told, row_as,
+    sweep_told, system_told, ultimate_told,
 };
 
 // 22, then 1 to 10.

@@ -3,4 +3,4 @@ use Rattle.desk.proofs.CallLaws.{writes_told}
 use Rattle.desk.proofs.exports.desk_page_lent.Goals as goal
 
 pub returns : goal.returns
-returns c = writes_told _ _ _ _ _ _ c.page_lent.ensures c.write_told.ensures
+returns c = writes_told _ _ _ _ _ _ c.page_lent.ensures c.done_told.ensures.written

@@ -1,22 +1,20 @@
--- `exports::desk_row` meets its contract: it tells the refusal, or where the row stands.
-use Rattle.std.proofs.Common.{◌≡◌, sym, ◌∙◌}
-use Rattle.std.proofs.Math.Path.{ap}
-use Rattle.definitions.specs.Refusals.{clear, row_check}
-use Rattle.layout.specs.Checks.{told}
-use Rattle.layout.specs.CheckLaws.{passed, row_shown}
+-- It tells the refusal, or where the row stands.
+use Rattle.std.proofs.Common.{sym}
+use Rattle.layout.specs.Refusals.{number_of}
+use Rattle.layout.specs.CheckLaws.{row_shown}
 use Rattle.desk.proofs.CallLaws.{row_refused, row_shows}
 use Rattle.desk.proofs.exports.desk_row.Goals as goal
-use Rattle.desk.proofs.exports.desk_row.Goals.{In_default}
 
-pub returns-in-Refuses : goal.returns-in-Refuses
-returns-in-Refuses c = row_refused _ _ _ _ _ (sym c.row_told-told.ensures ∙ ap told c.in-Refuses.is)
-
--- the row is not refused
-clear_row : (c : In_default) → row_check c.args.file.now c.args.channel c.args.year ≡ clear
-clear_row c = passed c.row_told-told.ensures c.in_default.is
+pub returns-in-Err : goal.returns-in-Err
+returns-in-Err c =
+    let a = c.args in
+    let r = c.in-Err.refusal in
+    rw (c.row_as.ensures, c.into.ensures) (row_refused a.file.now a.channel a.year (number_of r.reason) r.place (sym c.in-Err.ensures))
 
 pub row_place-found-requires : goal.row_place-found-requires
-row_place-found-requires c = row_shown _ _ _ (clear_row c)
+row_place-found-requires c = row_shown _ _ _ (sym c.in_default.ensures)
 
 pub returns : goal.returns
-returns c = row_shows _ _ _ _ (clear_row (goal.at.returns c).In_default) c.row_place-found.ensures
+returns c =
+    let a = c.args in
+    rw c.row_as-2.ensures (row_shows a.file.now a.channel a.year c.row_place-found.result (sym c.in_default.ensures) c.row_place-found.ensures)
