@@ -1,5 +1,5 @@
 // The test of a mean by its residues: |residue| ≤ e·D at each part.
-ghost use Rattle.std.specs.Prelude.{◌≡◌, nat_abs};
+ghost use Rattle.std.specs.Prelude.{◌≡◌};
 ghost use Rattle.definitions.specs.Matrix.{is_passed};
 ghost use Rattle.chain.specs.Judge.{OwnFits, Tested, Passes, judgement_of};
 
@@ -8,13 +8,6 @@ pub enum Judgement {
     Passed,
     // The first part that fails.
     Fails(usize),
-}
-
-// |z|, also of the least number, which has no opposite in 64 bits.
-pub fn size(z: i64) -> u64
-    ensures { result ≡ nat_abs z }
-{
-    z.unsigned_abs()
 }
 
 // The first part that fails, or that all pass.

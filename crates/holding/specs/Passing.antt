@@ -1,11 +1,9 @@
 -- What 21 and 24 tell of a session: it is refused with one of them, or the mean that it holds passes.
-use Rattle.std.specs.Prelude.{ℕ, ◌≡◌, ◌⊎◌, Bool, true, false, Result, Ok, Err}
-use Rattle.std.proofs.Common.{inl, inr}
+use Rattle.std.specs.Prelude.{◌≡◌, ◌⊎◌, Bool, true, false, Result, Ok, Err}
 use Rattle.definitions.specs.Words.{part}
 use Rattle.definitions.specs.Matrix.{passes}
 use Rattle.layout.specs.declared.refusals.Reason.TheVariants.{NothingOpen, NotPassed}
 use Rattle.layout.specs.declared.refusals.Refusal.{Refusal}
-use Rattle.layout.specs.Refusals.{number_of}
 use Rattle.chain.specs.Arrays.{figures_of, mean_of}
 use Rattle.holding.specs.State.{Held, Fits}
 
@@ -21,9 +19,3 @@ Refused s r = ((r ≡ record { reason = NothingOpen; place = 0 }) × ¬ Fits s)
 abbrev pub Passing : {X : Type 0} → Held → Result X Refusal → Type 0
 Passing s (Ok x) = Fits s × (held_passes s ≡ true)
 Passing s (Err r) = Refused s r
-
--- what holds of a refusal with 21 or 24, whatever the call: shown of both
-pub by_refusal : {s : Held} (r : Refusal) → Refused s r → (P : ℕ → ℕ → Type 0)
-    → (¬ Fits s → P 21 0) → (Fits s → held_passes s ≡ false → P 24 0) → P (number_of r.reason) r.place
-by_refusal r (inl (is-21, nothing)) P closed failing = rw is-21 (closed nothing)
-by_refusal r (inr (is-24, open-file, fails)) P closed failing = rw is-24 (failing open-file fails)

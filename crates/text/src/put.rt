@@ -26,13 +26,6 @@ pub fn put_decimal<N: Spell>(page: &mut [u8], at: usize, n: N) -> usize
     put(page, at, &spelt.bytes[spelt.from..])
 }
 
-pub fn put_signed(page: &mut [u8], at: usize, z: i64) -> usize
-    requires { at ≤ length page.old }
-    ensures { Added page.old at (signed_decimal z) page.new result }
-{
-    put_decimal(page, at, z)
-}
-
 // Right-aligned in so many columns.
 pub fn put_in<N: Spell>(page: &mut [u8], at: usize, columns: usize, n: N) -> usize
     requires { OfColumns page.old at columns (N.text n) }
