@@ -1,5 +1,5 @@
 -- Laws of the definitions' checks: of one condition, of a field's limits, of one check and then the next, and of the fields of a number.
-use Rattle.std.specs.Prelude.{ℕ, suc, ◌+◌, ◌-◌, ◌≤◌, ◌<◌, ◌≡◌, refl, Bool, true, false, not, ◌&&◌, ◌||◌, length, leb, eqb}
+use Rattle.std.specs.Prelude.{ℕ, suc, ◌+◌, ◌-◌, ◌≤◌, ◌<◌, ◌≡◌, refl, Bool, true, false, not, ◌&&◌, length, leb, eqb}
 use Rattle.std.proofs.Math.Path.{sym, ap, ap₂, fun_ext}
 use Rattle.std.proofs.Common.{◌∙◌, le-leb, leb-true, eqb-true}
 use Rattle.std.proofs.Math.Nat.{sub-zero}
@@ -10,8 +10,6 @@ use Rattle.definitions.specs.Words.{within}
 use Rattle.definitions.specs.Layout.{Bytes, unsigned, signed, length_word, version, last_year, parts, part_at, file_length, record_length}
 use Rattle.definitions.specs.Refusals as refusals
 use Rattle.definitions.specs.Refusals.{clear, refuses, unless, ◌then◌, fields, good_part, check1, check2, check3, check4, file_check, row_check, record_check}
-use Rattle.layout.specs.declared.refusals.Refusal.{Refusal}
-use Rattle.layout.specs.Refusals.{number_of}
 use Rattle.layout.specs.declared.checks.Limits.{Limits}
 use Rattle.layout.specs.declared.checks.Run.{Run}
 use Rattle.layout.specs.Checks.{place_in, allowed, unsigned_run, signed_run, length_check, record_head, Whole}
@@ -64,34 +62,7 @@ within_high low {high} {v} e h = rw (← e) (and_right (leb low v) (lt-leb v hig
 pub within_bounds : (low high v : ℕ) → within low high v ≡ true → (low ≤ v) × (v ≤ high)
 within_bounds low high v e = let b = and_true (leb low v) (leb v high) e in (leb-true low v b.0, leb-true v high b.1)
 
--- ---- what a field's limits allow
-
-or_false : (b : Bool) → b || false ≡ b
-or_false true = refl
-or_false false = refl
-
-or_under : (a b c : Bool) → (b ≡ true → c ≡ true) → (a && b) || c ≡ c
-or_under true true c h = sym (h refl)
-or_under true false c h = refl
-or_under false b c h = refl
-
-module _ (limits : Limits) {v : ℕ} where
-  -- below the least number 0 alone, where the limits have it
-  pub allowed_below : v < limits.low → allowed limits v ≡ limits.zero && eqb v 0
-  allowed_below h = ap (λ t. (limits.zero && eqb v 0) || t) (within_low limits.high refl h) ∙ or_false _
-
-  -- from there on whatever is at most the most, 0 or not
-  pub allowed_from : limits.low ≤ v → allowed limits v ≡ leb v limits.high
-  allowed_from h =
-      ap (λ t. (limits.zero && eqb v 0) || (t && leb v limits.high)) (le-leb limits.low v h)
-      ∙ or_under limits.zero (eqb v 0) _ (λ none. le-leb v limits.high (omega (arith, eqb-true v 0 none)))
-
 -- ---- one check, then the next
-
--- a refusal is the answer, whatever stands behind
-pub stopped : (refusal : Refusal) {x : refusals.Check} (y : refusals.Check)
-    → refusals.refuses (number_of refusal.reason) refusal.place ≡ x → refusals.refuses (number_of refusal.reason) refusal.place ≡ x then y
-stopped refusal y e = ap (λ z. z then y) e
 
 -- both were clear
 pub then_clear : (x y : refusals.Check) → x then y ≡ clear → (x ≡ clear) × (y ≡ clear)

@@ -80,23 +80,6 @@ module _ {A v : List ℤ} {k : ℕ} (row : k < 31) where
           elsewhere (31 * i + j) (λ same. omega arith) (λ same. omega arith) ∙ h.rest i j i-in j-in (omega arith);
     }
 
-  -- its diagonal, the last of row k
-  module _ {z : ℤ} (h : Mirrored A (31 * k + k) v) (is : z ≡ part A (31 * k + k)) where
-    at_diagonal : (i j : ℕ) → i < 31 → j < 31 → lower i j < 31 * (k + 1) → Dec (lower i j < 31 * k + k)
-        → part (set v (31 * k + k) z) (31 * i + j) ≡ part A (lower i j)
-    at_diagonal i j i-in j-in to (yes earlier) =
-        kept v (31 * k + k) z (31 * i + j) (λ same. omega arith) ∙ h.passed i j i-in j-in earlier
-    at_diagonal i j i-in j-in to (no here) =
-        put v (31 * k + k) z h.long (omega arith) (31 * i + j) (omega arith) ∙ is ∙ ap (part A) (omega arith)
-
-    pub mirrored_row : Mirrored A (31 * (k + 1)) (set v (31 * k + k) z)
-    mirrored_row = record {
-      long = length-set v (31 * k + k) z ∙ h.long;
-      passed = λ i j i-in j-in to. at_diagonal i j i-in j-in to (dec_lt (lower i j) (31 * k + k));
-      rest = λ i j i-in j-in from.
-          kept v (31 * k + k) z (31 * i + j) (λ same. omega (arith, same_row i j k k j-in row same)) ∙ h.rest i j i-in j-in (omega arith);
-    }
-
 -- the rows before k are what is shown of k parts
 pub mirrored_is : {A v : List ℤ} (k : ℕ) → Mirrored A (31 * k) v → v ≡ matrix_shown k A
 unfolding cell

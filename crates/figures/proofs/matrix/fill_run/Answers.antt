@@ -1,6 +1,6 @@
 -- `figures::matrix::fill_run` meets its contract. The loop's invariant: the cells passed are filled, and those before the run are as
 -- they were.
-use Prim.Native.Nat.{◌+◌, ◌≤◌, ◌<◌}
+use Prim.Native.Nat.{◌+◌, ◌<◌}
 use mathlib.Core.Path.{ap, ◌∙◌}
 use native.Mathlib.Omega.{arith}
 use Rattle.definitions.specs.Words.{part}
@@ -14,10 +14,6 @@ loop-n-init c = stretch_none c.requires.long
 
 inside : (c : In-loop-n) → c.args.at + c.loop-n.n < 961
 inside c = omega (arith, c.loop-n-test.true, c.requires.room)
-
--- no more are shared than the rank says
-ranked : (c : After-min) → c.min.result ≤ 15
-ranked c = omega (arith, c.min.ensures, c.requires.ranked)
 
 pub loop-n-preserved : goal.loop-n-preserved
 loop-n-preserved c =

@@ -8,7 +8,7 @@ use Rattle.laws.proofs.RunningSums.{summed_none, summed_next}
 use Rattle.observations.proofs.sums.running_sums.Goals as goal
 
 pub loop-n-init : goal.loop-n-init
-loop-n-init g c = record { small = omega arith; sums_are = λ f are. summed_none f }
+loop-n-init g c = (omega arith, λ f are. summed_none f)
 
 pub loop-n-preserved : goal.loop-n-preserved
 loop-n-preserved g c =
@@ -17,14 +17,13 @@ loop-n-preserved g c =
     let total : ℤ = to_z w64 c.loop-n.total-bits in
     let next : total +ℤ stored z ≡ total +ℤ z = ap (λ y. total +ℤ y) (same z c.term-total.type_inv) in
     let term_small : nat_abs z ≤ 2 ^ 58 = c.requires.small n z c.loop-n-test.true c.term-total.ensures in
-    let small : nat_abs (total +ℤ z) ≤ (n + 1) * 2 ^ 58 = omega (arith, nat_abs-+ total z, c.loop-n.invariant.small) in
-    let stays = kept w64 next (omega (arith, small, c.requires.few)) in
-    record {
-      small = rw stays small;
-      sums_are = λ f are. let before = c.loop-n.invariant.sums_are f are in
+    let small : nat_abs (total +ℤ z) ≤ (n + 1) * 2 ^ 58 = omega (arith, nat_abs-+ total z, c.loop-n.invariant.0) in
+    let stays = kept w64 next (omega (arith, small, c.requires.few)) in (
+      rw stays small,
+      λ f are. let before = c.loop-n.invariant.1 f are in
           summed_next before (omega (arith, c.requires.few))
-          (stays ∙ ap₂ ◌+ℤ◌ before.at_hand (are n z c.loop-n-test.true c.term-total.ensures) ∙ sym (sum_next n f));
-    }
+          (stays ∙ ap₂ ◌+ℤ◌ before.at_hand (are n z c.loop-n-test.true c.term-total.ensures) ∙ sym (sum_next n f)),
+    )
 
 pub returns : goal.returns
-returns g c f are n few = (c.loop-n.invariant.sums_are f are).there n (omega arith)
+returns g c f are n few = (c.loop-n.invariant.1 f are).there n (omega arith)

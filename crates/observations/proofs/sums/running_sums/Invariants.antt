@@ -5,7 +5,6 @@ use Rattle.laws.specs.RunningSums.{Summed}
 use Rattle.observations.proofs.sums.running_sums.Given as goal
 
 abbrev pub invariant-loop-n : goal.invariant-loop-n
-invariant-loop-n g l = record {
-  small : nat_abs l.total ≤ l.n * 2 ^ 58;
-  sums_are : (f : ℕ → ℤ) → ((n : ℕ) (z : ℤ) → n < l.count → goal.F-post g l.term n z → z ≡ f n) → Summed l.n f l.total l.sums;
-}
+invariant-loop-n g l =
+    (nat_abs l.total ≤ l.n * 2 ^ 58)
+    × ((f : ℕ → ℤ) → ((n : ℕ) (z : ℤ) → n < l.count → goal.F-post g l.term n z → z ≡ f n) → Summed l.n f l.total l.sums)

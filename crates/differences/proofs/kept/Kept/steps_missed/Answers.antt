@@ -80,9 +80,6 @@ module _ (c : In-loop-i) where
   year_few : i ≤ J
   year_few = step_year J k i below there
 
-  mark_inside : 16 * k + i < 496
-  mark_inside = omega (arith, below, years, year_few)
-
   next_small : (variances : List ℕ) → nat_abs (sum (i + 1) (terms variances)) < 2 ^ 63
   next_small variances =
       omega (arith, steps_small J (o variances) years k below v small (i + 1) (omega (arith, there)))

@@ -12,7 +12,7 @@ use Rattle.integers.specs.Size.{fits, kept}
 use Rattle.integers.specs.Sum.{sum, sum_zero, sum_next}
 use Rattle.definitions.specs.Words.{part}
 use Rattle.definitions.specs.Layout.{cells, row_start}
-use Rattle.laws.proofs.Cells.{cell_below, cells_few}
+use Rattle.laws.proofs.Cells.{cell_below}
 use Rattle.integers.specs.Bits.{stored, read, same}
 use Rattle.observations.specs.Arrays
 use Rattle.figures.specs.Sums.{Logs, counted_at, start_sum}
@@ -54,9 +54,6 @@ module _ (c : In-loop-i) where
 
   inside : at < 2 * cells J
   inside = omega (arith, at_is, starts_inside i (omega (arith, more)))
-
-  in_array : at < 272
-  in_array = omega (arith, inside, cells_few J small.few)
 
   log : stored (part logs at) ≡ start i
   log = read (part logs at) (omega (arith, small.small at inside)) ∙ ap (part logs) at_is

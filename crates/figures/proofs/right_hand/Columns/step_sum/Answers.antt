@@ -11,7 +11,6 @@ use Rattle.integers.specs.Size.{fits, kept}
 use Rattle.integers.specs.Sum.{sum, sum_zero, sum_next}
 use Rattle.definitions.specs.Words.{part}
 use Rattle.definitions.specs.Layout.{cells, row_start}
-use Rattle.laws.proofs.Cells.{cells_few}
 use Rattle.integers.specs.Bits.{stored, read, same}
 use Rattle.observations.specs.Arrays
 use Rattle.observations.specs.Arrays.{mark_at}
@@ -58,9 +57,6 @@ module _ (c : In-loop-i) where
   inside : at + 1 < 2 * cells J
   inside = omega (arith, at_is, step_inside J c.args.block c.args.column i c.requires.in_blocks more)
 
-  in_array : at + 1 < 272
-  in_array = omega (arith, inside, cells_few J small.few)
-
   log_at_lem : (n : ℕ) → n < 2 * cells J → stored (part logs n) ≡ part logs n
   log_at_lem n below = read (part logs n) (omega (arith, small.small n below))
 
@@ -82,9 +78,6 @@ module _ (c : In-loop-i) where
   next_small =
       sum_small (i + 1) counts (omega (arith, more, small.few))
       (λ y below. counted_small c.args.self.now.struck.now c.args.k step_at y (omega (arith, steps_small y (omega (arith, more)))))
-
-  mark_inside : 16 * c.args.k + i < 496
-  mark_inside = omega (arith, more, small.few, c.requires.of_part)
 
 pub overflow_sub-step : goal.overflow_sub-step
 overflow_sub-step c =

@@ -10,7 +10,6 @@ use Rattle.integers.specs.Size.{fits, kept}
 use Rattle.integers.specs.Size.{nat_abs-*-≤}
 use Rattle.definitions.specs.Words.{part}
 use Rattle.definitions.specs.Layout.{cells}
-use Rattle.laws.proofs.Cells.{cells_few}
 use Rattle.integers.specs.Bits.{stored, read}
 use Rattle.observations.specs.Arrays
 use Rattle.figures.specs.Sums.{Logs, last_cell, ratio_of}
@@ -56,9 +55,6 @@ module _ (c : After-cells_of-cells) where
 
   inside : at < cells J
   inside = omega (arith, at_is, last_cell_below J d (omega (arith, more)))
-
-  in_array : cell + at < 272
-  in_array = omega (arith, inside, cell_is, cells_few J small.few)
 
   weight_small : weight d ≤ 2 ^ 27
   weight_small = c.requires.of_ratios.weights_small d more
