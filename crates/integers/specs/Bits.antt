@@ -1,10 +1,9 @@
 -- A whole number in the bits of an i64: read back, and by its sign.
-use Rattle.std.specs.Prelude.{ℕ, ◌^◌, ◌<◌, ◌≡◌, refl, true, false, ℤ, pos, negsuc, nat_abs, ◌-ℤ◌}
+use Rattle.std.specs.Prelude.{ℕ, ◌^◌, ◌<◌, ◌≡◌, refl, true, false, ℤ, pos, negsuc, nat_abs}
 use Rattle.std.proofs.Common.{sym, ap, ◌∙◌, arith, ltb-true, SFits, to_z, of_z, to_z-of_z}
 use Rattle.std.proofs.lemmas.Bool.{false≢true}
 use Rattle.std.specs.Int.Signed.{mag, lt_z}
 use Rattle.std.specs.Int.{w64}
-use Rattle.integers.specs.Linear.{linear}
 use Rattle.integers.specs.Size.{kept}
 
 -- z as it is read after it was written
@@ -44,10 +43,3 @@ negative {z} f t = negative_is z f (ap (λ y. lt_z y (pos 0)) (sym (to_z-of_z f)
 
 pub nonnegative : {z : ℤ} → SFits w64 z → lt_z (stored z) (pos 0) ≡ false → Nonnegative z
 nonnegative {z} f t = nonnegative_is z f (ap (λ y. lt_z y (pos 0)) (sym (to_z-of_z f)) ∙ t)
-
--- −1 − z, which never wraps, takes the negative numbers to the others and back
-pub complement_negative : (n : ℕ) → negsuc 0 -ℤ negsuc n ≡ pos n
-complement_negative n = simp linear (omega arith)
-
-pub complement_nonnegative : (n : ℕ) → negsuc 0 -ℤ pos n ≡ negsuc n
-complement_nonnegative n = simp linear (omega arith)

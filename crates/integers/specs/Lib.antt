@@ -18,7 +18,7 @@
 --   size                   nat_abs-≤, nat_abs-<, nat_abs_parts                                                            Linear
 --                          nat_abs_neg, nat_abs-+, nat_abs--, nat_abs-*, nat_abs-*-≤, nat_abs_square                         Size
 --   signed bits            fits, kept                                                                                  Size
---   read back, by its sign stored, read, same; negative, nonnegative, complement_negative, complement_nonnegative      Bits
+--   read back, by its sign stored, read, same; negative, nonnegative      Bits
 --   rounded down           floor_div, floor-≤, floor-<, floor_unique, floor_half                                        Floor
 --                          floor_rest, floor_rest_nonneg, floor_rest-<                                                  Floor
 --   what is summed         sum, and total over ℕ; `Sum` passes both on                                                 Summation
