@@ -1,7 +1,7 @@
 """What must be believed to read the contracts at the border is what docs/CLAIMS.md lists, and no more.
 
 The border is every function that can be called from outside: the calls of the specification's table, the public functions of the session
-and of the crates whose calls it passes on, what C calls, and `list` and `board`, which make what the programs print. From the names in
+and of the crates whose calls it passes on, the methods of the types that it passes on, what C calls, and `list` and `board`, which make what the programs print. From the names in
 their contracts the imports are followed, module by module. Every module of this repository that is reached, and every source that such
 a contract stands in, must be in that list, whose folders stand for all that is in them, and every entry of the list must be reached.
 Types that Rattle declares are in its sources, and the rest is the kit's.
@@ -16,18 +16,18 @@ import re
 import sys
 from collections.abc import Iterator
 
-from declared import crates, files, files_of, folders, is_kit, text_of
+from declared import crates, files, files_of, folders, is_kit, module_file, text_of
 from documents import blocks, sentences
 from resolving import Named, resolved
 
 SESSION = "session"
 PUBLIC_FUNCTION = r'^ *pub (?:extern "C" )?fn (\w+)'
-PASSED_ON = r"^pub use (\w+)(?:::\w+)*::(?:\w+|\{[\w,\s]+\});$"
+PASSED_ON = r"^pub use ((?:\w+::)+)(\w+|\{[\w,\s]+\});$"
 PROGRAMS = [("crates/listing/src/main.rt", "list"), ("crates/board_page/src/main.rt", "board")]
 DOCUMENT = "docs/CLAIMS.md"
 LIST = "## What must be believed besides"
 
-WORDS_OF_CONTRACTS = {"requires", "ensures", "result", "λ", "×", "→"}  # which no import gives
+WORDS_OF_CONTRACTS = {"requires", "ensures", "result", "record", "λ", "×", "→"}  # which no import gives
 
 Function = tuple[str, str]  # the file and the name
 
@@ -47,13 +47,28 @@ def public_files(crate: str) -> list[str]:
     return found
 
 
+def passed_on(path: str) -> list[tuple[list[str], str]]:
+    """What a file passes on of other crates: the module and the name of each item."""
+    found = re.findall(PASSED_ON, text_of(path), re.MULTILINE)
+    return [(module.split("::")[:-1], name) for module, names in found for name in re.findall(r"\w+", names)]
+
+
 def border_crates() -> list[str]:
-    """The session, and every crate of which one of these passes on an item."""
+    """The session, and every crate of which one of these passes on a function."""
     found = [SESSION]
     for crate in found:
-        passed_on = (other for path in public_files(crate) for other in re.findall(PASSED_ON, text_of(path), re.MULTILINE))
-        found += [other for other in dict.fromkeys(passed_on) if other in crates() and other not in found]
+        functions = (module[0] for path in public_files(crate) for module, name in passed_on(path) if name[0].islower())
+        found += [other for other in dict.fromkeys(functions) if other in crates() and other not in found]
     return found
+
+
+def methods_passed_on() -> Iterator[Function]:
+    """The public methods of the types that are passed on."""
+    for path in (path for crate in border_crates() for path in public_files(crate)):
+        for module, name in passed_on(path):
+            home = module_file(module) if module[0] in crates() and name[0].isupper() else None
+            blocks_of = re.findall(rf"^impl {name} \{{\n(.*?)^\}}", text_of(home), re.MULTILINE | re.DOTALL) if home else []
+            yield from ((home, method) for block in blocks_of for method in re.findall(PUBLIC_FUNCTION, block, re.MULTILINE))
 
 
 def border() -> list[Function]:
@@ -61,7 +76,7 @@ def border() -> list[Function]:
     found = [(f"crates/{crate}/src/{module}.rt", name) for crate, module, name in table]
     for path in [path for crate in border_crates() for path in public_files(crate)] + files_of("desk", "src/", ".rt"):
         found += [(path, name) for name in re.findall(PUBLIC_FUNCTION, text_of(path), re.MULTILINE)]
-    return list(dict.fromkeys([*found, *PROGRAMS]))
+    return list(dict.fromkeys([*found, *methods_passed_on(), *PROGRAMS]))
 
 
 def contract(function: Function) -> tuple[str, str]:
@@ -69,7 +84,7 @@ def contract(function: Function) -> tuple[str, str]:
     path, name = function
     head = re.search(rf"^[^/\n]*\bfn {name}\b.*?(?=^ +(?:requires|ensures)|\{{\n)", text_of(path), re.MULTILINE | re.DOTALL)
     behind = text_of(path)[head.end():]
-    return head[0], "" if behind.startswith("{") else re.split(r"^\{", behind, maxsplit=1, flags=re.MULTILINE)[0]
+    return head[0], "" if behind.startswith("{") else re.split(r"^ *\{$", behind, maxsplit=1, flags=re.MULTILINE)[0]
 
 
 def imports(path: str) -> dict[str, str]:
@@ -88,7 +103,7 @@ def words_of_contract(function: Function) -> set[str]:
     without_fields = re.sub(r"\.«?[\w-]+»?|«?[\w-]+»? = ", " ", without_names)
     bound = set(re.findall(r"λ (\w+)\.", clauses)) | set(re.findall(r"(\w+): ", head))
     words = set(re.findall(r"[^\s(){},;.«»]+", without_fields))
-    return {word for word in words if not word.isdigit()} - bound - WORDS_OF_CONTRACTS
+    return {word for word in words if not word.isdigit()} - bound - {"self"} - WORDS_OF_CONTRACTS
 
 
 def modules_of_contract(function: Function) -> set[str]:
@@ -155,7 +170,7 @@ def covers(entry: str, path: str) -> bool:
 
 def complaints() -> Iterator[str]:
     for path in (path for crate in border_crates() for path in public_files(crate)):
-        unread = re.sub(PASSED_ON, lambda found: "" if found[1] in crates() else found[0], text_of(path), flags=re.MULTILINE)
+        unread = re.sub(PASSED_ON, lambda found: "" if found[1].split("::")[0] in crates() else found[0], text_of(path), flags=re.MULTILINE)
         lines = re.findall(r"^.*\bpub use\b.*", unread, re.MULTILINE)
         yield from (f"{path}: {line.strip()}: what it passes on is not followed" for line in lines)
     for path, name in border():

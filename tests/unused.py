@@ -24,6 +24,7 @@ SIGNATURE = re.compile(rf"( *)((?:abbrev |unfoldable |pub |ruleset )*)(?!let |us
 TYPE = re.compile(r"( *)(?:pub )?(record|data) ([^\s{]+)")
 MEMBER = re.compile(rf" +(?:pub )?{NAME} :(?=\s)")
 ITEM = re.compile(r" *(?:pub )?(?:fn|const|struct|enum) (\w+)")
+TRAIT = re.compile(r"impl.* for .*\{$")  # its methods are called by what takes the trait, as `from` by `?`
 GOAL = re.compile(r" *(?:abbrev |pub )*\S+ : goal\.")
 VARIANT = re.compile(r"    ([A-Z]\w*)(?:\(.*\))?,$")
 
@@ -79,8 +80,9 @@ class Source:
 
     @cached_property
     def behind_paths(self) -> set[str]:
-        """In Rattle, what is named by its path, in imports too."""
-        return set() if self.antt else {*re.findall(r"::(\w+)", self.text), *(there for _, there, _, _ in self.imports)}
+        """In Rattle, what is named by its path, in imports too, and the methods that are called."""
+        called = re.findall(r"(?:::|\.)(\w+)", self.text)
+        return set() if self.antt else {*called, *(there for _, there, _, _ in self.imports)}
 
     @cached_property
     def projected(self) -> set[str]:
@@ -145,10 +147,11 @@ def defined_in_antt(source: Source) -> list[Defined]:
 
 
 def defined_in_rattle(source: Source) -> list[Defined]:
-    found, exported = [], False
+    found, exported, of_trait = [], False, False
     for number, line in enumerate(source.lines):
+        of_trait = bool(TRAIT.match(line)) or of_trait and line != "}"
         if match := ITEM.match(line):
-            if not exported and match[1] != "main":
+            if not exported and not of_trait and match[1] != "main":
                 found.append(Defined(match[1], range(number, number + 1)))
         elif match := VARIANT.match(line):
             found.append(Defined(match[1], range(number, number + 1)))

@@ -17,15 +17,11 @@ use Rattle.definitions.specs.Matrix.{passed, fails, is_passed, passes, judge_fro
 use Rattle.laws.proofs.Tables.{tab_at}
 use Rattle.chain.specs.declared.arrays.Figures.{Figures}
 use Rattle.chain.specs.declared.judge.Judgement.{Judgement}
-use Rattle.chain.specs.declared.judge.Judgement.TheVariants.{Passed, Fails}
+use Rattle.chain.specs.Verdict.{judgement_of}
 use Rattle.chain.specs.Arrays.{mean_of, figures_of}
 use Rattle.chain.specs.Fitting.{Fitting, own_limit}
 use Rattle.chain.specs.Residues.{ResiduesOf}
 use Rattle.chain.specs.Sizes.{residue_same}
-
-abbrev pub judgement_of : Judgement → D.Judgement
-judgement_of Passed = passed
-judgement_of (Fails k) = fails k
 
 -- The definitions' test over residues that are at hand: parts k, k + 1, …, n of them.
 unfoldable pub test_from : ℕ → List ℕ → List ℤ → ℕ → ℕ → D.Judgement

@@ -3,6 +3,7 @@
 --   Arrays         what the code's arrays stand for: `figures_of`, `mean_of`
 --   Fitting        the figures and means that 64 bits suffice for
 --   Decides        an answer that tells whether something holds
+--   Verdict        a judgement in the words of the definitions
 --   Residues, Judge      the contracts, a record each for what is asked and what is given
 --   AcceptedFits   the figures of an accepted file fit, and its prior means are inside the limits
 --   Sizes          the sizes of what the code computes
@@ -14,3 +15,4 @@ pub mod Judge
 pub mod Residues
 pub mod Sizes
 pub mod Turned
+pub mod Verdict

@@ -1,7 +1,8 @@
 // The test of a mean by its residues: |residue| ≤ e·D at each part.
 ghost use Rattle.std.specs.Prelude.{◌≡◌};
 ghost use Rattle.definitions.specs.Matrix.{is_passed};
-ghost use Rattle.chain.specs.Judge.{OwnFits, Tested, Passes, judgement_of};
+ghost use Rattle.chain.specs.Judge.{OwnFits, Tested, Passes};
+ghost use Rattle.chain.specs.Verdict.{judgement_of};
 
 #[derive(Clone, Copy, Debug, PartialEq, Eq)]
 pub enum Judgement {

@@ -37,7 +37,7 @@ use Rattle.sweeping.specs.Sweeps.{of_sweep}
 use Rattle.writing.specs.Writes as WriteCall
 use Rattle.writing.specs.Writes.{of_write, Text, writes_to}
 use Rattle.showing.specs.Shows as FiguresCall
-use Rattle.showing.specs.Shows.{shows_to, FiguresOf}
+use Rattle.showing.specs.Shows.{FiguresOf}
 use Rattle.telling.specs.declared.Refusal.{Refusal}
 use Rattle.telling.specs.declared.Judged.{Judged}
 use Rattle.telling.specs.declared.Swept.{Swept}

@@ -16,7 +16,7 @@ use Rattle.layout.specs.declared.refusals.Refusal.{Refusal}
 use Rattle.layout.specs.Refusals.{number_of}
 use Rattle.chain.specs.declared.judge.Judgement as C
 use Rattle.chain.specs.declared.judge.Judgement.TheVariants.{Passed, Fails}
-use Rattle.chain.specs.Judge.{judgement_of}
+use Rattle.chain.specs.Verdict.{judgement_of}
 use Rattle.holding.specs.State.{Held, Fits, state_of}
 use Rattle.holding.proofs.StateLaws.{state_of_held, state_of_empty}
 use Rattle.holding.proofs.Worth.{worth, rounded}

@@ -12,7 +12,7 @@ use Rattle.layout.specs.declared.refusals.Refusal.{Refusal}
 use Rattle.layout.specs.Refusals.{refused_as}
 use Rattle.chain.specs.declared.judge.Judgement.{Judgement}
 use Rattle.chain.specs.declared.judge.Judgement.TheVariants.{Passed}
-use Rattle.chain.specs.Judge.{judgement_of}
+use Rattle.chain.specs.Verdict.{judgement_of}
 use Rattle.holding.specs.State.{Held, state_of, HoldsFile}
 
 -- the specification's number, place and values for every case of an answer

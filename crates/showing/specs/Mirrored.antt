@@ -31,9 +31,6 @@ mirrored_none A = record {
 pub row_of : (k l : ℕ) → l < 31 → (31 * k + l) / 31 ≡ k
 row_of k l inside = omega arith
 
-same_row : (i j k l : ℕ) → j < 31 → l < 31 → 31 * i + j ≡ 31 * k + l → i ≡ k
-same_row i j k l j-in l-in same = sym (row_of i j j-in) ∙ ap (λ c. c / 31) same ∙ row_of k l l-in
-
 -- one number is put
 module _ (v : List ℤ) (p : ℕ) (z : ℤ) where
   put : length v ≡ 961 → p < 961 → (n : ℕ) → n ≡ p → part (set v p z) n ≡ z

@@ -1,7 +1,7 @@
 // Texts put on a page, one behind another. Each function puts its text at a place of the page, as much of it as the page has room
 // for, leaves what stands behind it, and answers where it ends.
 ghost use Rattle.std.specs.Prelude.{◌≤◌, length};
-ghost use Rattle.definitions.specs.Text.{signed_decimal, aligned};
+ghost use Rattle.definitions.specs.Text.{aligned};
 ghost use Rattle.definitions.specs.Programs.{count_line, refusal_line};
 ghost use Rattle.text.specs.Added.{Added, OfColumns};
 

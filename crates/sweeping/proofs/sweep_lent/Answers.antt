@@ -9,7 +9,6 @@ use Rattle.sweeping.specs.SweepLaws.{sweeps_closed, sweeps_outside}
 use Rattle.sweeping.proofs.sweep_lent.Goals as goal
 use Rattle.sweeping.proofs.sweep_lent.Goals.{
   Else-not-frame_fits,
-  In-Some,
   then-n-lt1-via-then-n-lt1,
   then-n-lt1-via-else-n-lt1+then-n-gt-SWEEP_LIMIT,
 }

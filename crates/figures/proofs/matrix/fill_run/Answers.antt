@@ -7,7 +7,7 @@ use Rattle.definitions.specs.Words.{part}
 use Rattle.integers.specs.Bits.{read}
 use Rattle.figures.specs.EntryLaws.{stretch_none, stretch_next, stretch_to}
 use Rattle.figures.proofs.matrix.fill_run.Goals as goal
-use Rattle.figures.proofs.matrix.fill_run.Goals.{After-min, In-loop-n}
+use Rattle.figures.proofs.matrix.fill_run.Goals.{In-loop-n}
 
 pub loop-n-init : goal.loop-n-init
 loop-n-init c = stretch_none c.requires.long

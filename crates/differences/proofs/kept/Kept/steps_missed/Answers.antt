@@ -20,7 +20,7 @@ use Rattle.observations.specs.declared.Observations.{Observations}
 use Rattle.observations.specs.Arrays.{observations_at}
 use Rattle.observations.specs.Arrays as Arrays
 use Rattle.differences.specs.Differences.{left_in, weight_of, observation_of, step_term}
-use Rattle.differences.proofs.DifferenceLaws.{step_weight_is, step_weight_small, observation_small, steps_small, step_year}
+use Rattle.differences.proofs.DifferenceLaws.{step_weight_is, step_weight_small, observation_small, steps_small}
 use Rattle.differences.proofs.kept.Kept.steps_missed.Invariants.{term}
 use Rattle.differences.proofs.kept.Kept.steps_missed.Goals as goal
 use Rattle.differences.proofs.kept.Kept.steps_missed.Goals.{After-observation, After-weighed-total, In-loop-i}
@@ -76,9 +76,6 @@ module _ (c : In-loop-i) where
 
   there : i < steps_of J k
   there = subst (λ n. i < n) c.steps_of-count.ensures c.loop-i-test.true
-
-  year_few : i ≤ J
-  year_few = step_year J k i below there
 
   next_small : (variances : List ℕ) → nat_abs (sum (i + 1) (terms variances)) < 2 ^ 63
   next_small variances =
