@@ -170,7 +170,7 @@ def of_the_sample() -> Iterator[str]:
 def of_the_letters() -> Iterator[str]:
     """docs/CALLS.md has every letter that the reference takes, and the program takes the same."""
     listed = set(re.findall(r"^\| `(\w)` \|", text_of("docs/CALLS.md"), re.MULTILINE))
-    taken = set(re.findall(r"b'(\w)' (?:=>|\|)", text_of("crates/calls/src/main.rt")))
+    taken = set(re.findall(r"b'(\w)' (?:=>|\|)", text_of("crates/calls/src/call.rt")))
     for name, found in (("docs/CALLS.md", listed), ("crates/calls", taken)):
         if found != letters():
             yield f"{name}: the calls are {sorted(letters())}, and not {sorted(found)}"

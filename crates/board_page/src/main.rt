@@ -11,9 +11,8 @@ ghost use Rattle.settling.specs.Printed.{Prints};
 use layout::places::last_year;
 use pages::page_length;
 use session::Session;
-use session::answers::WriteAnswer;
 use session::calls::page;
-use settling::{Printed, printed_of, refused, run};
+use settling::{Printed, printed_of, run};
 use std::io;
 
 // The page of the mean that settled, which is never refused: it passes, and no page has more than 868 bytes.
@@ -22,10 +21,7 @@ fn page_mean(given: &[u8], s: Session) -> Printed
     ensures { Prints (board_page given.now) result }
 {
     let mut bytes = [0u8; 4096];
-    let answer = page(s, &mut bytes);
-    if let WriteAnswer::Refused(number, place) = answer {
-        return refused(number, place);
-    }
+    page(s, &mut bytes).unwrap();
     let last = last_year(given) as usize;
     let end = page_length(last);
     Printed { bytes, end }

@@ -3,16 +3,14 @@
 
 use crate::call::Call;
 use crate::printing::{
-    print_hex, print_judge, print_open, print_refusal, print_strike, print_sweep, print_ultimate,
-    print_write,
+    print_done, print_hex, print_judge, print_refusal, print_sweep, print_ultimate,
 };
 use crate::reading::{read_call, read_length, read_number, read_string};
 use crate::shown::print_figures;
 use crate::stop::Stop;
-use layout::checks::Check;
 use readings::rows::{row, row_told};
 use session::Session;
-use session::answers::WriteAnswer;
+use session::answers::Refusal;
 use session::calls::{close, figures, judge, open, page, read, residues, strike, sweep, ultimate};
 use session::state::empty;
 use std::io;
@@ -28,7 +26,7 @@ fn run_open(rt: &HostRuntime, s: Session) -> Result<Session, Stop> {
     let mut lent = [0u8; 4096];
     let n = read_string(rt, &mut lent)?;
     let opening = open(s, &lent[..n]);
-    print_open(rt, opening.answer)?;
+    print_done(rt, "opened", opening.answer)?;
     Ok(opening.session)
 }
 
@@ -50,13 +48,13 @@ fn run_sweep(rt: &HostRuntime, s: Session) -> Result<Session, Stop> {
 // were written.
 fn run_writing<F>(rt: &HostRuntime, s: Session, said: &str, call: F) -> Result<Session, Stop>
 where
-    F: FnOnce(Session, &mut [u8]) -> WriteAnswer,
+    F: FnOnce(Session, &mut [u8]) -> Result<(), Refusal>,
     requires { F.IsAlwaysCallable call }
 {
     let mut lent = [0xA5u8; 4096];
     let n = read_length(rt, &lent)?;
     let answer = call(s, &mut lent[..n]);
-    print_write(rt, said, answer)?;
+    print_done(rt, said, answer)?;
     print_hex(rt, "buffer", &lent[..n])?;
     Ok(s)
 }
@@ -79,15 +77,14 @@ fn run_strike(rt: &HostRuntime, s: Session) -> Result<Session, Stop> {
     let year = read_number(rt)?;
     let column = read_number(rt)?;
     let striking = strike(s, channel, year, column);
-    print_strike(rt, striking.answer)?;
+    print_done(rt, "struck", striking.answer)?;
     Ok(striking.session)
 }
 
 fn print_row(rt: &HostRuntime, file: &[u8], channel: usize, year: usize) -> io::Result<()> {
-    let told = row_told(file, channel, year);
-    match told {
-        Check::Clear => print_hex(rt, "row", row(file, channel, year)),
-        Check::Refuses(number, place) => print_refusal(rt, number, place),
+    match row_told(file, channel, year) {
+        Ok(()) => print_hex(rt, "row", row(file, channel, year)),
+        Err(refusal) => print_refusal(rt, refusal),
     }
 }
 

@@ -3,61 +3,47 @@ ghost use Rattle.std.specs.Prelude.{◌≡◌, ◌*◌, ◌≤◌, ◌<◌, leng
 ghost use Rattle.calls.specs.Counts.{IsPrefixLen};
 ghost use Rattle.calls.specs.Hex.{hex_digit_ascii, hex_of};
 
-use session::answers::{
-    JudgeAnswer, OpenAnswer, StrikeAnswer, SweepAnswer, UltimateAnswer, WriteAnswer,
-};
+use session::answers::{Judgement, Progress, Refusal, Ultimate};
 use std::io;
 
-pub fn print_refusal(rt: &HostRuntime, number: u64, place: usize) -> io::Result<()> {
+pub fn print_refusal(rt: &HostRuntime, refusal: Refusal) -> io::Result<()> {
+    let number = refusal.reason.number();
+    let place = refusal.place;
     println!(rt; "refused {number} at {place}")
 }
 
-pub fn print_open(rt: &HostRuntime, answer: OpenAnswer) -> io::Result<()> {
+// Of a call that answers no more than that it did its job: what is then said is the caller's.
+pub fn print_done(rt: &HostRuntime, said: &str, answer: Result<(), Refusal>) -> io::Result<()> {
     match answer {
-        OpenAnswer::Opened => println!(rt; "opened"),
-        OpenAnswer::Refused(number, place) => print_refusal(rt, number, place),
+        Ok(()) => println!(rt; "{said}"),
+        Err(refusal) => print_refusal(rt, refusal),
     }
 }
 
-pub fn print_judge(rt: &HostRuntime, answer: JudgeAnswer) -> io::Result<()> {
+pub fn print_judge(rt: &HostRuntime, answer: Result<Judgement, Refusal>) -> io::Result<()> {
     match answer {
-        JudgeAnswer::Passed => println!(rt; "passed"),
-        JudgeAnswer::Fails(part) => println!(rt; "fails {part}"),
-        JudgeAnswer::Refused(number, place) => print_refusal(rt, number, place),
+        Ok(Judgement::Passed) => println!(rt; "passed"),
+        Ok(Judgement::Fails(part)) => println!(rt; "fails {part}"),
+        Err(refusal) => print_refusal(rt, refusal),
     }
 }
 
-pub fn print_sweep(rt: &HostRuntime, answer: SweepAnswer) -> io::Result<()> {
+pub fn print_sweep(rt: &HostRuntime, answer: Result<Progress, Refusal>) -> io::Result<()> {
     match answer {
-        SweepAnswer::Settled(total) => println!(rt; "settled {total}"),
-        SweepAnswer::Going(total) => println!(rt; "going {total}"),
-        SweepAnswer::Refused(number, place) => print_refusal(rt, number, place),
+        Ok(Progress::Settled(total)) => println!(rt; "settled {total}"),
+        Ok(Progress::Going(total)) => println!(rt; "going {total}"),
+        Err(refusal) => print_refusal(rt, refusal),
     }
 }
 
-// What is said of a call that wrote is the caller's.
-pub fn print_write(rt: &HostRuntime, said: &str, answer: WriteAnswer) -> io::Result<()> {
+pub fn print_ultimate(rt: &HostRuntime, answer: Result<Ultimate, Refusal>) -> io::Result<()> {
     match answer {
-        WriteAnswer::Written => println!(rt; "{said}"),
-        WriteAnswer::Refused(number, place) => print_refusal(rt, number, place),
-    }
-}
-
-pub fn print_ultimate(rt: &HostRuntime, answer: UltimateAnswer) -> io::Result<()> {
-    match answer {
-        UltimateAnswer::Central(found) => {
+        Ok(found) => {
             let floor = found.floor;
             let remainder = found.remainder;
             println!(rt; "ultimate {floor} {remainder}")
         }
-        UltimateAnswer::Refused(number, place) => print_refusal(rt, number, place),
-    }
-}
-
-pub fn print_strike(rt: &HostRuntime, answer: StrikeAnswer) -> io::Result<()> {
-    match answer {
-        StrikeAnswer::Struck => println!(rt; "struck"),
-        StrikeAnswer::Refused(number, place) => print_refusal(rt, number, place),
+        Err(refusal) => print_refusal(rt, refusal),
     }
 }
 

@@ -4,7 +4,7 @@ ghost use Rattle.calls.specs.Counts.{IsPrefixLen};
 
 use crate::call::Call;
 use crate::stop::Stop;
-use fields::{Field, unsigned_4};
+use fields::unsigned_4;
 use std::io::Read;
 
 // Fills the buffer. An input that ends first cuts the call off.
@@ -23,10 +23,7 @@ pub fn read_call(rt: &HostRuntime) -> Result<Call, Stop> {
 pub fn read_number(rt: &HostRuntime) -> Result<u64, Stop> {
     let mut four = [0u8; 4];
     read_full(rt, &mut four)?;
-    match unsigned_4(&four, 0) {
-        Field::Value(n) => Ok(n),
-        Field::End => Err(Stop::Script),
-    }
+    unsigned_4(&four, 0).ok_or(Stop::Script)
 }
 
 // A number that is at most the length of the buffer.

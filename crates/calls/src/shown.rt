@@ -4,7 +4,7 @@ ghost use Rattle.std.specs.Prelude.{◌≤◌};
 
 use crate::printing::print_refusal;
 use chain::arrays::Figures;
-use session::answers::{FiguresAnswer, Showing};
+use session::answers::Refusal;
 use std::fmt::Display;
 use std::io;
 
@@ -38,9 +38,9 @@ fn print_system(rt: &HostRuntime, figures: Figures) -> io::Result<()> {
     print_numbers(rt, "right", &figures.right_hand[..count])
 }
 
-pub fn print_figures(rt: &HostRuntime, shown: Showing) -> io::Result<()> {
-    match shown.answer {
-        FiguresAnswer::Shown => print_system(rt, shown.figures),
-        FiguresAnswer::Refused(number, place) => print_refusal(rt, number, place),
+pub fn print_figures(rt: &HostRuntime, shown: Result<Figures, Refusal>) -> io::Result<()> {
+    match shown {
+        Ok(figures) => print_system(rt, figures),
+        Err(refusal) => print_refusal(rt, refusal),
     }
 }

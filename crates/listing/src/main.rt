@@ -11,15 +11,14 @@ ghost use Rattle.session.specs.Value.{held_by};
 ghost use Rattle.settling.specs.Printed.{Prints};
 ghost use Rattle.listing.specs.Listing.{OfParts, record_lines};
 
-use fields::{SignedField, signed_4};
+use fields::signed_4;
 use layout::places::last_year;
 use session::Session;
-use session::answers::WriteAnswer;
 use session::calls::read;
-use settling::{Printed, printed_of, refused, run};
+use settling::{Printed, printed_of, run};
 use std::io;
 use text::parts::{index_of, name_of};
-use text::put::{put, put_count, put_decimal, put_signed};
+use text::put::{put, put_count, put_decimal};
 
 // A name, an index and a mean in ticks.
 fn put_part(page: &mut [u8], at: usize, last: usize, k: usize, mean: i64) -> usize
@@ -32,7 +31,7 @@ fn put_part(page: &mut [u8], at: usize, last: usize, k: usize, mean: i64) -> usi
     let spaced = put(page, named, b" ");
     let indexed = put_decimal(page, spaced, index as u64);
     let parted = put(page, indexed, b" ");
-    let counted = put_signed(page, parted, mean);
+    let counted = put_decimal(page, parted, mean);
     put(page, counted, b"\n")
 }
 
@@ -44,9 +43,7 @@ fn put_parts(page: &mut [u8], at: usize, last: usize, record: &[u8; 129]) -> usi
     let count = 2 * last + 1;
     let mut end = at;
     for k in 0..count {
-        let SignedField::Value(mean) = signed_4(record, 5 + 4 * k) else {
-            return end;
-        };
+        let mean = signed_4(record, 5 + 4 * k).unwrap();
         end = put_part(page, end, last, k, mean);
     }
     end
@@ -59,10 +56,7 @@ fn list_mean(given: &[u8], s: Session, total: u64) -> Printed
     ensures { Prints (listing given.now) result }
 {
     let mut record = [0u8; 129];
-    let answer = read(s, &mut record);
-    if let WriteAnswer::Refused(number, place) = answer {
-        return refused(number, place);
-    }
+    read(s, &mut record).unwrap();
     let last = last_year(given) as usize;
     let mut bytes = [0u8; 4096];
     let headed = put_count(&mut bytes, 0, b"J ", last as u64);

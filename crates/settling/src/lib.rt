@@ -4,6 +4,7 @@
 ghost use Rattle.std.specs.Prelude.{ℕ};
 ghost use Rattle.definitions.specs.Programs.{refusal_line, spent_line};
 ghost use Rattle.laws.specs.Printed.{MeanSettled};
+ghost use Rattle.layout.specs.Refusals.{number_of};
 ghost use Rattle.text.specs.Added.{OnPage};
 ghost use Rattle.holding.specs.State.{state_of};
 ghost use Rattle.session.specs.Value.{held_by};
@@ -13,7 +14,7 @@ ghost use Rattle.settling.specs.Told.{Told};
 
 pub use crate::gathered::Printed;
 use session::Session;
-use session::answers::{OpenAnswer, SweepAnswer, Sweeping};
+use session::answers::{Outcome, Progress, Reason, Refusal};
 use session::calls::{open, sweep};
 use session::state::empty;
 use std::io;
@@ -41,22 +42,25 @@ pub fn read_full<R: Read>(input: &mut R, buffer: &mut [u8]) -> usize
 
 // Opens the bytes given and sweeps with n = 4,096. An input that cannot be opened is told as a refused sweep, so that a program has
 // one answer to go by.
-pub fn settle(given: &[u8]) -> Sweeping
+pub fn settle(given: &[u8]) -> Outcome<Progress>
     ensures { Settles given.now result }
 {
     let session = empty();
     if ROOM <= given.len() {
-        let answer = SweepAnswer::Refused(1, 0);
-        return Sweeping { answer, session };
+        return Outcome {
+            answer: Err(Reason::Length.at(0)),
+            session,
+        };
     }
     let opening = open(session, given);
-    let opened = opening.answer;
     let session = opening.session;
-    if let OpenAnswer::Refused(number, place) = opened {
-        let answer = SweepAnswer::Refused(number, place);
-        return Sweeping { answer, session };
+    match opening.answer {
+        Ok(()) => sweep(session, 4096),
+        Err(refusal) => Outcome {
+            answer: Err(refusal),
+            session,
+        },
     }
-    sweep(session, 4096)
 }
 
 pub fn spent(total: u64) -> Printed
@@ -67,11 +71,11 @@ pub fn spent(total: u64) -> Printed
     Printed { bytes, end }
 }
 
-pub fn refused(number: u64, place: usize) -> Printed
-    ensures { Prints (refusal_line number place) result }
+pub fn refused(refusal: Refusal) -> Printed
+    ensures { Prints (refusal_line (number_of refusal.reason) refusal.place) result }
 {
     let mut bytes = [0u8; 4096];
-    let end = put_refusal(&mut bytes, number, place);
+    let end = put_refusal(&mut bytes, refusal.reason.number(), refusal.place);
     Printed { bytes, end }
 }
 
@@ -85,9 +89,9 @@ where
 {
     let settling = settle(given);
     match settling.answer {
-        SweepAnswer::Settled(total) => make(settling.session, total),
-        SweepAnswer::Going(total) => spent(total),
-        SweepAnswer::Refused(number, place) => refused(number, place),
+        Ok(Progress::Settled(total)) => make(settling.session, total),
+        Ok(Progress::Going(total)) => spent(total),
+        Err(refusal) => refused(refusal),
     }
 }
 

@@ -19,8 +19,8 @@ returns c =
     let kept₂ = c.put-spaced.auto.page ∙ kept₁ in
     let kept₃ = c.put_decimal-indexed.auto.page ∙ kept₂ in
     let kept₄ = c.put-parted.auto.page ∙ kept₃ in
-    let kept₅ = c.put_signed-counted.auto.page ∙ kept₄ in
+    let kept₅ = c.put_decimal-counted.auto.page ∙ kept₄ in
     let words = pieces c.name_of-name.ensures c.index_of-index.ensures (to_z-of_z c.ranges.mean) in
     let front = both (both c.put-named.ensures kept₁ c.put-spaced.ensures) kept₂ c.put_decimal-indexed.ensures in
     in_words (words ∙ part_put (part_by_index c.args.last c.args.k) c.args.mean)
-    (both (both (both front kept₃ c.put-parted.ensures) kept₄ c.put_signed-counted.ensures) kept₅ c.put.ensures)
+    (both (both (both front kept₃ c.put-parted.ensures) kept₄ c.put_decimal-counted.ensures) kept₅ c.put.ensures)

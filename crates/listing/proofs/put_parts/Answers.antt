@@ -9,7 +9,7 @@ use Rattle.definitions.specs.Matrix.{part_by_index}
 use Rattle.definitions.specs.Text.{lines}
 use Rattle.definitions.specs.Programs.{part_line}
 use Rattle.laws.proofs.Lines.{lines_next}
-use Rattle.fields.specs.Fields.{signed_read, signed_outside}
+use Rattle.fields.specs.Fields.{signed_read, signed_value}
 use Rattle.text.specs.Added.{both, in_words, nothing}
 use Rattle.listing.proofs.put_parts.Goals as goal
 
@@ -17,20 +17,19 @@ pub loop-k-init : goal.loop-k-init
 unfolding lines
 loop-k-init c = (refl, nothing _ _ c.requires.on)
 
-pub returns-in_default : goal.returns-in_default
-returns-in_default c =
-    let k = c.loop-k.k in
-    let outside = signed_outside (part_at k) c.args.«record».now c.signed_4.ensures c.in_default.is in
-    absurd (omega (arith, c.requires.years, outside))
+pub unwrap-mean-requires : goal.unwrap-mean-requires
+unwrap-mean-requires c =
+    let within = signed_value (part_at c.loop-k.k) c.args.«record».now (omega (arith, c.requires.years)) in
+    rw (c.signed_4.ensures, within) refl
 
 pub loop-k-preserved : goal.loop-k-preserved
 loop-k-preserved c =
     let a = c.args in
     let l = c.loop-k in
     let line = c.put_part-end in
-    let field = signed_read (part_at l.k) a.«record».now c.signed_4.ensures c.in-Value.is in
-    let fits : SFits w64 c.in-Value.mean = search rules in
-    let mean = to_z-of_z {w = w64} {z = c.in-Value.mean} fits ∙ field in (
+    let field = signed_read (part_at l.k) a.«record».now c.signed_4.ensures c.unwrap-mean.ensures in
+    let fits : SFits w64 c.unwrap-mean.result = search rules in
+    let mean = to_z-of_z {w = w64} {z = c.unwrap-mean.result} fits ∙ field in (
       line.auto.page ∙ l.invariant.0,
       in_words (lines_next (λ i. part_line (part_by_index a.last i) (signed (part_at i) a.«record».now)) l.k)
           (both l.invariant.1 l.invariant.0 (in_words (ap (part_line (part_by_index a.last l.k)) mean) line.ensures)),

@@ -41,19 +41,21 @@ module _ (c : After-open-opening) where
       (c.open-opening.ensures.state ∙ ap (λ st. (opens_to st bytes).state) none ∙ ap (λ x. x.state) (opens_as_file bytes))
 
 pub returns-then-given-ge-ROOM : goal.returns-then-given-ge-ROOM
-returns-then-given-ge-ROOM c = let given = c.args.given.now in settles_by given _ (long_text given (omega (arith, c.if-given-ge-ROOM.true)))
+returns-then-given-ge-ROOM c =
+    let given = c.args.given.now in
+    rw c.at.ensures (settles_by given _ (long_text given (omega (arith, c.if-given-ge-ROOM.true))))
 
-pub returns-in-Refused : goal.returns-in-Refused
-returns-in-Refused c =
-    let after_open_opening = (goal.at.returns-in-Refused c).After-open-opening in
+pub returns-in-Err : goal.returns-in-Err
+returns-in-Err c =
+    let after_open_opening = (goal.at.returns-in-Err c).After-open-opening in
     let given = bytes after_open_opening in
-    settles_by given _ (refused_text given (short after_open_opening) (sym (ap of_open c.in-Refused.is) ∙ open_answer after_open_opening))
+    settles_by given _ (refused_text given (short after_open_opening) (sym (ap of_open c.in-Err.is) ∙ open_answer after_open_opening))
 
-pub returns : goal.returns
-returns c =
-    let after_open_opening = (goal.at.returns c).After-open-opening in
+pub returns-in-Ok : goal.returns-in-Ok
+returns-in-Ok c =
+    let after_open_opening = (goal.at.returns-in-Ok c).After-open-opening in
     let given = bytes after_open_opening in
     settles_swept given c.sweep.result (short after_open_opening)
-    (sym (ap of_open c.in_default.is) ∙ open_answer after_open_opening)
+    (sym (ap of_open c.in-Ok.is) ∙ open_answer after_open_opening)
     (c.sweep.ensures.sweeps.answer ∙ ap (λ st. (sweeps_to st 4096).answer) (open_state after_open_opening) ∙ ap (λ x. x.answer) (swept_as_file given))
     (c.sweep.ensures.sweeps.state ∙ ap (λ st. (sweeps_to st 4096).state) (open_state after_open_opening) ∙ ap (λ x. x.state) (swept_as_file given))
