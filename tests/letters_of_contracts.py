@@ -78,24 +78,25 @@ PROMISED = {
         "state_of s ≡ holds (figures_left f) μ total |",
     ),
     "opening/Opens": (
-        "| abbrev pub of_open : OpenAnswer → Answer | of_open Opened = M.opened | of_open (Refused number place) = M.refused number "
-        "place | abbrev pub opens_to : State Kept → Bytes → Outcome Kept | opens_to = open_call in_session | pub record Opens (s : "
-        "Held) (o : Observations) (file : Bytes) (r : OpenAnswer) (t : Held) (p : Observations) : Type 0 where pub answer : of_open r ≡ "
-        "(opens_to (session_state o s) file).answer pub state : session_state p t ≡ (opens_to (session_state o s) file).state pub same "
-        ": (number place : ℕ) → r ≡ Refused number place → (t ≡ s) × (p ≡ o) |",
+        "| abbrev pub of_open : Result Unit Refusal → Answer | of_open (Ok done) = M.opened | of_open (Err r) = refused_as r | "
+        "abbrev pub opens_to : State Kept → Bytes → Outcome Kept | opens_to = open_call in_session | pub record Opens (s : "
+        "Held) (o : Observations) (file : Bytes) (r : Result Unit Refusal) (t : Held) (p : Observations) : Type 0 where pub "
+        "answer : of_open r ≡ (opens_to (session_state o s) file).answer pub state : session_state p t ≡ (opens_to "
+        "(session_state o s) file).state pub same : IsErr r → (t ≡ s) × (p ≡ o) |",
     ),
     "projecting/Projects": (
-        "| abbrev pub of_ultimate : Ultimate → D.Ultimate | of_ultimate r = record { floor = r.floor; remainder = r.remainder; divisor "
-        "= r.divisor } | abbrev pub of_project : UltimateAnswer → Answer | of_project (Central r) = M.ultimate_is (of_ultimate r) | "
-        "of_project (Refused number place) = M.refused number place | abbrev pub latest_with : Observations → Figures → Latest | "
-        "latest_with o F = latest_in F.last (observed_in F.last o) | abbrev pub projects_to : Observations → State Figures → ℕ → Answer "
-        "| projects_to o = ultimate_call (λ F. F) (latest_with o) | pub record Projects (o : Observations) (s : Held) (year : ℕ) (r : "
-        "UltimateAnswer) : Type 0 where pub answer : of_project r ≡ projects_to o (state_of s) year pub exact : (F : Figures) (μ : List "
-        "ℤ) (count : ℕ) → state_of s ≡ holds F μ count → (u : Ultimate) → r ≡ Central u → Divided (numerator F.last (latest_with o F) "
-        "year (part μ)) (of_ultimate u) × (u.divisor ≡ both_variances F.last (latest_with o F) year) pub worth : (f : StruckFile) (μ : "
-        "List ℤ) (count : ℕ) → HoldsFile s f μ count → (u : Ultimate) → r ≡ Central u → Guarantee (chain_left f) (closeness f.file) "
-        "(part μ) | abbrev pub ProjectsLent : List ℤ → List ℕ → Held → ℕ → UltimateAnswer → Type 0 | ProjectsLent ticks variances s "
-        "year r = (weights struck : List ℕ) → Projects (observations_at ticks weights variances struck) s year r |",
+        "| abbrev pub of_ultimate : Ultimate → D.Ultimate | of_ultimate r = record { floor = r.floor; remainder = r.remainder; "
+        "divisor = r.divisor } | abbrev pub of_project : Result Ultimate Refusal → Answer | of_project (Ok r) = M.ultimate_is "
+        "(of_ultimate r) | of_project (Err r) = refused_as r | abbrev pub latest_with : Observations → Figures → Latest | "
+        "latest_with o F = latest_in F.last (observed_in F.last o) | abbrev pub projects_to : Observations → State Figures → ℕ "
+        "→ Answer | projects_to o = ultimate_call (λ F. F) (latest_with o) | pub record Projects (o : Observations) (s : Held) "
+        "(year : ℕ) (r : Result Ultimate Refusal) : Type 0 where pub answer : of_project r ≡ projects_to o (state_of s) year "
+        "pub exact : (F : Figures) (μ : List ℤ) (count : ℕ) → state_of s ≡ holds F μ count → (u : Ultimate) → r ≡ Ok u → "
+        "Divided (numerator F.last (latest_with o F) year (part μ)) (of_ultimate u) × (u.divisor ≡ both_variances F.last "
+        "(latest_with o F) year) pub worth : (f : StruckFile) (μ : List ℤ) (count : ℕ) → HoldsFile s f μ count → (u : "
+        "Ultimate) → r ≡ Ok u → Guarantee (chain_left f) (closeness f.file) (part μ) | abbrev pub ProjectsLent : List ℤ → List "
+        "ℕ → Held → ℕ → Result Ultimate Refusal → Type 0 | ProjectsLent ticks variances s year r = (weights struck : List ℕ) → "
+        "Projects (observations_at ticks weights variances struck) s year r |",
     ),
     "telling/Told": (
         "| abbrev pub ultimate_told : Answer → Projected | ultimate_told a = record { refusal = refusal_told a; floor = (told "
@@ -148,14 +149,15 @@ PROMISED = {
         "pub same_figures : (close : ℕ) → figures_from c close ≡ figures_from (with_years c.last d) close unfolding",
     ),
     "striking/Strikes": (
-        "| abbrev pub of_strike : StrikeAnswer → Answer | of_strike Struck = M.struck_out | of_strike (Refused number place) = "
-        "M.refused number place | abbrev pub strikes_to : State Kept → Step → Outcome Kept | strikes_to = strike_call in_session | pub "
-        "record Strikes (d : Step) (s : Held) (o : Observations) (r : StrikeAnswer) (t : Held) (p : Observations) : Type 0 where pub "
-        "answer : of_strike r ≡ (strikes_to (session_state o s) d).answer pub state : session_state p t ≡ (strikes_to (session_state o "
-        "s) d).state pub same : (number place : ℕ) → r ≡ Refused number place → (t ≡ s) × (p ≡ o) | abbrev pub StrikesLent : ℕ → ℕ → ℕ "
-        "→ Held → List ℤ → List ℕ → List ℕ → StrikeAnswer → Held → List ℤ → List ℕ → List ℕ → Type 0 | StrikesLent channel i j s ticks "
-        "weights struck r t ticks' weights' struck' = (variances : List ℕ) → Strikes (step channel i j) s (observations_at ticks "
-        "weights variances struck) r t (observations_at ticks' weights' variances struck') |",
+        "| abbrev pub of_strike : Result Unit Refusal → Answer | of_strike (Ok done) = M.struck_out | of_strike (Err r) = "
+        "refused_as r | abbrev pub strikes_to : State Kept → Step → Outcome Kept | strikes_to = strike_call in_session | pub "
+        "record Strikes (d : Step) (s : Held) (o : Observations) (r : Result Unit Refusal) (t : Held) (p : Observations) : "
+        "Type 0 where pub answer : of_strike r ≡ (strikes_to (session_state o s) d).answer pub state : session_state p t ≡ "
+        "(strikes_to (session_state o s) d).state pub same : (refusal : Refusal) → r ≡ Err refusal → (t ≡ s) × (p ≡ o) | "
+        "abbrev pub StrikesLent : ℕ → ℕ → ℕ → Held → List ℤ → List ℕ → List ℕ → Result Unit Refusal → Held → List ℤ → List ℕ → "
+        "List ℕ → Type 0 | StrikesLent channel i j s ticks weights struck r t ticks' weights' struck' = (variances : List ℕ) → "
+        "Strikes (step channel i j) s (observations_at ticks weights variances struck) r t (observations_at ticks' weights' "
+        "variances struck') |",
     ),
     "laws/ObservedResidues": (
         "pub observed_is_residue : (e k : ℕ) → k < parts c.last → observed_times c 1 u k ≡ residue (figures_from c e) u k "
@@ -167,17 +169,18 @@ PROMISED = {
         "(figures_from c e) u k unfolding",
     ),
     "weighing/Weighs": (
-        "| abbrev pub weighs_to : State Kept → Bytes → Bytes → Outcome Kept | weighs_to = residues_call chain_kept | pub record Weighs "
-        "(o : Observations) (s : Held) (meanRecord before : Bytes) (r : WriteAnswer) (after : Bytes) : Type 0 where pub answer : "
-        "of_write r ≡ (weighs_to (session_state o s) meanRecord before).answer pub buffer : after ≡ (weighs_to (session_state o s) "
-        "meanRecord before).buffer pub of_file : (f : StruckFile) (μ : List ℤ) (count : ℕ) → Admitted f → session_state o s ≡ holds "
-        "(kept_of f) μ count → r ≡ Written → (k : ℕ) → k < parts (last_year f.file) → residue_at after k ≡ residue (figures_left f) "
-        "(part (mean_of (last_year f.file) meanRecord)) k | abbrev pub WeighsLent : List ℤ → List ℕ → List ℕ → Held → Bytes → Bytes → "
-        "WriteAnswer → Bytes → Type 0 | WeighsLent ticks weights struck s meanRecord before r after = (variances : List ℕ) → Weighs "
-        "(observations_at ticks weights variances struck) s meanRecord before r after | |",
+        "| abbrev pub weighs_to : State Kept → Bytes → Bytes → Outcome Kept | weighs_to = residues_call chain_kept | pub "
+        "record Weighs (o : Observations) (s : Held) (meanRecord before : Bytes) (r : Result Unit Refusal) (after : Bytes) : "
+        "Type 0 where pub answer : of_write r ≡ (weighs_to (session_state o s) meanRecord before).answer pub buffer : after ≡ "
+        "(weighs_to (session_state o s) meanRecord before).buffer pub of_file : (f : StruckFile) (μ : List ℤ) (count : ℕ) → "
+        "Admitted f → session_state o s ≡ holds (kept_of f) μ count → IsOk r → (k : ℕ) → k < parts (last_year f.file) → "
+        "residue_at after k ≡ residue (figures_left f) (part (mean_of (last_year f.file) meanRecord)) k | abbrev pub "
+        "WeighsLent : List ℤ → List ℕ → List ℕ → Held → Bytes → Bytes → Result Unit Refusal → Bytes → Type 0 | WeighsLent "
+        "ticks weights struck s meanRecord before r after = (variances : List ℕ) → Weighs (observations_at ticks weights "
+        "variances struck) s meanRecord before r after | |",
     ),
     "writing/Writes": (
-        "| abbrev pub of_write : WriteAnswer → Answer | of_write Written = M.written | of_write (Refused number place) = M.refused "
-        "number place |",
+        "| abbrev pub of_write : Result Unit Refusal → Answer | of_write (Ok done) = M.written | of_write (Err r) = refused_as "
+        "r |",
     ),
 }

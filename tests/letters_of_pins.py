@@ -161,11 +161,11 @@ SAID = {
         "(matrix c k k -ℤ pos 2 *ℤ residue_times c 1 μ k) ≤ 39465 * 2 ^ 47 divided_to =",
     ),
     "opening/Pinned": (
-        "| pub open_refused : (s t : Held) (o p : Observations) (file : Bytes) (number place : ℕ) → Opens s o file (Refused number "
-        "place) t p → (t ≡ s) × (p ≡ o) | open_refused",
-        "| pub as_with_16 : (s t : Held) (o p : Observations) (f : Bytes) (r : OpenAnswer) → Opens s o f r t p → let with_16 : Outcome "
-        "Kept = open_with16 Kept in_session (session_state o s) f in (of_open r ≡ with_16.answer) × (session_state p t ≡ with_16.state) "
-        "| as_with_16",
+        "| pub open_refused : (s t : Held) (o p : Observations) (file : Bytes) (r : Refusal) → Opens s o file (Err r) t p → (t "
+        "≡ s) × (p ≡ o) | open_refused",
+        "| pub as_with_16 : (s t : Held) (o p : Observations) (f : Bytes) (r : Result Unit Refusal) → Opens s o f r t p → let "
+        "with_16 : Outcome Kept = open_with16 Kept in_session (session_state o s) f in (of_open r ≡ with_16.answer) × "
+        "(session_state p t ≡ with_16.state) | as_with_16",
         "pub opened_keeps : session_state p t ≡ holds (kept_of (unstruck f)) (tab_from 0 (parts (last_year f)) (prior_mean f)) 0 "
         "opened_keeps",
     ),
@@ -228,7 +228,7 @@ SAID = {
         "f.file; struck = step 1 i j ∷ f.struck })) m u +ℤ pos (weight (τ² f.file j)) *ℤ (d *ℤ d) incurred_term_leaves",
     ),
     "striking/Pinned": (
-        "pub strike_refused : (d : Step) (s t : Held) (o p : Observations) (number place : ℕ) → Strikes d s o (Refused number place) t "
+        "pub strike_refused : (d : Step) (s t : Held) (o p : Observations) (refusal : Refusal) → Strikes d s o (Err refusal) t "
         "p → (t ≡ s) × (p ≡ o) | strike_refused",
         "pub struck_keeps : session_state p t ≡ holds (kept_of without_it) start 0 struck_keeps",
         "pub struck_holds : HoldsFile t without_it start 0 struck_holds",
@@ -276,11 +276,11 @@ SAID = {
         "last_year f.file + 1 → residue_at (residue_bytes (chain_left f) u ++ rest) k ≡ residue (figures_left f) u k | reached_residues",
     ),
     "weighing/Pinned": (
-        "pub residues_refused : (number place : ℕ) → Weighs o s r before (Refused number place) after → after ≡ before residues_refused "
-        "number",
-        "pub residues_written : (f : StruckFile) (μ : List ℤ) (count : ℕ) → Admitted f → session_state o s ≡ holds (kept_of f) μ count "
-        "→ Weighs o s r before Written after → (k : ℕ) → k < 2 * last_year f.file + 1 → residue_at after k ≡ residue (figures_left f) "
-        "(part (mean_of (last_year f.file) r)) k residues_written f",
+        "pub residues_refused : (refusal : Refusal) → Weighs o s r before (Err refusal) after → after ≡ before "
+        "residues_refused refusal",
+        "pub residues_written : (f : StruckFile) (μ : List ℤ) (count : ℕ) → Admitted f → session_state o s ≡ holds (kept_of f) "
+        "μ count → Weighs o s r before (Ok tt) after → (k : ℕ) → k < 2 * last_year f.file + 1 → residue_at after k ≡ residue "
+        "(figures_left f) (part (mean_of (last_year f.file) r)) k residues_written f",
     ),
     "desk/PinnedResidues": (
         "| abbrev pub refusal : ℕ → ℕ → Refusal | refusal number place = record { number = number; place = place } | |",

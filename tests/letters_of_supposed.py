@@ -6,7 +6,7 @@ SUPPOSED = {
         "(taken : accepted f ≡ true) (from : 1 ≤ i) (to : i ≤ J)",
     ),
     "projecting/Pinned": (
-        "(o : Observations) (s : Held) (year : ℕ) (u : Ultimate) (call : Projects o s year (Central u))",
+        "(o : Observations) (s : Held) (year : ℕ) (u : Ultimate) (call : Projects o s year (Ok u))",
     ),
     "desk/PinnedUltimate": (
         "(o : Observations) (s : Held) (year : ℕ) (r : Projected) (call : Projects o s year r)",
@@ -57,24 +57,24 @@ SUPPOSED = {
         "(below : j ≤ J)",
     ),
     "opening/Pinned": (
-        "(s t : Held) (o p : Observations) (f : Bytes) (none : state_of s ≡ empty) (call : Opens s o f Opened t p)",
+        "(s t : Held) (o p : Observations) (f : Bytes) (none : state_of s ≡ empty) (call : Opens s o f (Ok tt) t p)",
     ),
     "desk/PinnedSession": (
         "(o : Observations) (s : Held)",
     ),
     "judging/Pinned": (
-        "(f : StruckFile) (s : Held) (μ : List ℤ) (count : ℕ) (open-file : HoldsFile s f μ count) (r : Bytes) {a : JudgeAnswer} (call : "
-        "Judges s r a)",
+        "(f : StruckFile) (s : Held) (μ : List ℤ) (count : ℕ) (open-file : HoldsFile s f μ count) (r : Bytes) {a : Result "
+        "Judgement Refusal} (call : Judges s r a)",
     ),
     "sweeping/Pinned": (
-        "(f : StruckFile) (s t : Held) (μ ν : List ℤ) (count after : ℕ) (before : HoldsFile s f μ count) (then : HoldsFile t f ν after) "
-        "(n : ℕ) {a : SweepAnswer} (call : Sweeps s n a t)",
+        "(f : StruckFile) (s t : Held) (μ ν : List ℤ) (count after : ℕ) (before : HoldsFile s f μ count) (then : HoldsFile t f "
+        "ν after) (n : ℕ) {a : Result Progress Refusal} (call : Sweeps s n a t)",
     ),
     "writing/Pinned": (
         "(f : StruckFile) (s : Held) (μ : List ℤ) (count : ℕ) (open-file : HoldsFile s f μ count)",
     ),
     "showing/Pinned": (
-        "(s : Held) (r : Showing) (call : Shows s r)",
+        "(s : Held) (r : Result arrays.Figures Refusal) (call : Shows s r)",
         "(F : Figures) (μ : List ℤ) (count : ℕ) (some : state_of s ≡ holds F μ count)",
         "(f : StruckFile) (μ : List ℤ) (count : ℕ) (open-file : HoldsFile s f μ count)",
     ),
@@ -102,7 +102,7 @@ SUPPOSED = {
     ),
     "striking/Pinned": (
         "(d : Step) (s t : Held) (o p : Observations) (f : StruckFile) (μ : List ℤ) (count : ℕ) (file : Admitted f) (kept : "
-        "session_state o s ≡ holds (kept_of f) μ count) (call : Strikes d s o Struck t p)",
+        "session_state o s ≡ holds (kept_of f) μ count) (call : Strikes d s o (Ok tt) t p)",
     ),
     "desk/PinnedStrikes": (
         "(channel i j : ℕ) (s t : Held) (o p : Observations) (r : Refusal) (call : Strikes (step channel i j) s o r t p)",

@@ -53,6 +53,8 @@ CONTRACTS = {
     "residues": (f"Weighs s.observations (held_by s) lent.now {BUFFER}", "weighing/Weighs session/Value"),
     "figures": ("Shows (held_by s) result", "showing/Shows session/Value"),
     "close": (EMPTY, "holding/State session/Value definitions/Machine"),
+    "number": ("result ≡ number_of self", "layout/Refusals"),
+    "at": ("result ≡ record { reason = self; place = place }", ""),
     "open_lent": (behind_result(OPENS), "opening/Opens holding/State observations/Arrays"),
     "judge_lent": (f"Judges {LENT} lent.now result", "judging/Judges holding/State"),
     "sweep_lent": (
@@ -66,7 +68,7 @@ CONTRACTS = {
     "residues_lent": (f"{WEIGHS} {LENT} lent.now {BUFFER}", "weighing/Weighs holding/State"),
     "figures_lent": (f"Shows {LENT} result", "showing/Shows holding/State"),
     "row": ("result.now ≡ row_part s.now channel year", "definitions/Machine"),
-    "row_told": ("told result ≡ row_check s.now channel year", "definitions/Refusals layout/Checks"),
+    "row_told": ("told result ≡ row_check s.now channel year", "definitions/Refusals layout/Refusals"),
     "desk_open_lent": (behind_result(OPENS), "desk/Calls holding/State observations/Arrays"),
     "desk_judge_lent": (f"Judges {OF_C} lent.now result", "desk/Calls holding/State"),
     "desk_sweep_lent": (

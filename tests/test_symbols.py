@@ -64,8 +64,9 @@ OF_SWEEPS = set(
 # Files that have strings.
 OF_TEXTS = {"definitions/JointTable", "definitions/Programs", "definitions/Text", "laws/PinnedPage"}
 
-# The kit's names for an option. Here `some` is a field, and `none` what C is told where nothing is refused.
-OF_AN_OPTION = {"some", "none"}
+# The kit's names for an option. Here `some` is a field, and `none` what C is told where nothing is refused. `Option` is that of its logic
+# in what is believed, and of the code elsewhere, where no definition has it.
+OF_AN_OPTION = {"some", "none", "Option"}
 
 # Of the kit, which a clause may have in place of a variable.
 CONSTRUCTORS = {"[]", "zero", "suc", "pos", "negsuc", "true", "false", "inl", "inr"}
