@@ -1,10 +1,10 @@
 """What must be believed to read the contracts at the border is what docs/CLAIMS.md lists, and no more.
 
 The border is every function that can be called from outside: the calls of the specification's table, the public functions of the session
-and of the crates whose calls it passes on, the methods of the types that it passes on, what C calls, and `list` and `board`, which make what the programs print. From the names in
-their contracts the imports are followed, module by module. Every module of this repository that is reached, and every source that such
-a contract stands in, must be in that list, whose folders stand for all that is in them, and every entry of the list must be reached.
-Types that Rattle declares are in its sources, and the rest is the kit's.
+and of the crates whose calls it passes on, the methods of the types that it passes on, what C calls, and `list` and `board`, which make
+what the programs print. From the names in their contracts the imports are followed, module by module. Every module of this
+repository that is reached, and every source that such a contract stands in, must be in that list, whose folders stand for all that is in
+them, and every entry of the list must be reached. Types that Rattle declares are in its sources, and the rest is the kit's.
 
     python3 tests/believed.py --print
 

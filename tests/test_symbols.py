@@ -69,7 +69,7 @@ OF_TEXTS = {"definitions/JointTable", "definitions/Programs", "definitions/Text"
 OF_AN_OPTION = {"some", "none", "Option"}
 
 # Of the kit, which a clause may have in place of a variable.
-CONSTRUCTORS = {"[]", "zero", "suc", "pos", "negsuc", "true", "false", "inl", "inr"}
+CONSTRUCTORS = {"[]", "zero", "suc", "pos", "negsuc", "true", "false", "inl", "inr", "Ok", "Err"}
 
 # What is believed of `integers`, and the file of laws that hands it on.
 SUMS, HANDED_ON = "integers/Summation", "integers/Sum"

@@ -100,7 +100,8 @@ module _ (F : D.Figures) (μ ν : List ℤ) (total n after : ℕ) where
       by_cases false false e st = rw (held_now st) (ap settled (same_total st))
 
 module _ (s : Held) (n : ℕ) where
-  sweeps_as : (r : Result Progress Refusal) (t : Held) → of_sweep r ≡ (sweeps_to (state_of s) n).answer → state_of t ≡ (sweeps_to (state_of s) n).state
+  sweeps_as : (r : Result Progress Refusal) (t : Held) → of_sweep r ≡ (sweeps_to (state_of s) n).answer
+      → state_of t ≡ (sweeps_to (state_of s) n).state
       → ((e : Refusal) → r ≡ Err e → t ≡ s)
       → Sweeps s n r t
   sweeps_as r t a st same = record {

@@ -4,14 +4,12 @@ ghost use Rattle.definitions.specs.Refusals.{year_limit};
 ghost use Rattle.definitions.specs.Matrix.{part_by_index};
 ghost use Rattle.definitions.specs.Text.{name_of, index_of};
 
-#[tactic(auto, using(std::proofs::lemmas::Grind::common_steps), unfolding(definitions::specs::Words::tab_from, definitions::specs::Matrix::part_by_index, definitions::specs::Text::ascii, definitions::specs::Text::name_of))]
 pub fn name_of(last: usize, k: usize) -> [u8; 3]
     ensures { result ≡ name_of (part_by_index last k) }
 {
     if k <= last { *b"phi" } else { *b"psi" }
 }
 
-#[tactic(auto, using(std::proofs::lemmas::Grind::common_steps), unfolding(definitions::specs::Matrix::part_by_index, definitions::specs::Text::index_of))]
 pub fn index_of(last: usize, k: usize) -> usize
     requires { last ≤ year_limit }
     ensures { result ≡ index_of (part_by_index last k) }

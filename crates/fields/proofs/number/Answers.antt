@@ -17,7 +17,9 @@ module _ (c : In-loop-byte) where
   next = ap (λ v. v * 256 + get_or bytes n 0) c.loop-byte.invariant ∙ sym (unsigned_front n bytes c.loop-byte-test.true)
 
   next_fits : value * 256 + get_or bytes n 0 < 2 ^ 64
-  next_fits = rw next (unsigned_fits bytes (λ k. (c.type_inv.bytes k).fits) 0 (n + 1) (omega (arith, c.loop-byte-test.true)) (omega (arith, c.loop-byte-test.true)))
+  next_fits =
+      let more = c.loop-byte-test.true in
+      rw next (unsigned_fits bytes (λ k. (c.type_inv.bytes k).fits) 0 (n + 1) (omega (arith, more)) (omega (arith, more)))
 
 pub overflow_mul-value : goal.overflow_mul-value
 overflow_mul-value c = omega (arith, next_fits c)

@@ -45,7 +45,8 @@ returns-then-year-lt1 c weights struck =
 pub returns-then-last-year : goal.returns-then-last-year
 returns-then-last-year c weights struck =
     let in_ok = (goal.at.returns-then-last-year c).In_ok-check_passing in
-    rw c.at-then-last-year.ensures (projects_behind (o (goal.at.returns-then-last-year c).Start weights struck) _ _ (open_file in_ok) (passing in_ok) c.if-last-year.true)
+    rw c.at-then-last-year.ensures
+    (projects_behind (o (goal.at.returns-then-last-year c).Start weights struck) _ _ (open_file in_ok) (passing in_ok) c.if-last-year.true)
 
 pub central_ultimate-requires : goal.central_ultimate-requires
 central_ultimate-requires c =

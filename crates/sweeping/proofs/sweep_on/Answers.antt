@@ -22,7 +22,9 @@ returns-then-passes c =
 
 pub returns-then-before-ge-SWEEP_LIMIT : goal.returns-then-before-ge-SWEEP_LIMIT
 returns-then-before-ge-SWEEP_LIMIT c =
-    rw c.at.ensures (spent (S (goal.at.returns-then-before-ge-SWEEP_LIMIT c).Start) c.args.n c.requires c.passes.ensures c.if-passes.false (omega (arith, c.if-before-ge-SWEEP_LIMIT.true)))
+    rw c.at.ensures
+    (spent (S (goal.at.returns-then-before-ge-SWEEP_LIMIT c).Start) c.args.n c.requires c.passes.ensures c.if-passes.false
+    (omega (arith, c.if-before-ge-SWEEP_LIMIT.true)))
 
 pub sweeps-swept-requires : goal.sweeps-swept-requires
 sweeps-swept-requires c = let asked = c.requires in record { fitting = asked.fits.fitting; holds = asked.holds_mean }

@@ -44,7 +44,9 @@ page_length-requires c = (frame (open_file c)).years
 pub returns-then-buffer-page_length : goal.returns-then-buffer-page_length
 returns-then-buffer-page_length c =
     let in_ok = (goal.at.returns-then-buffer-page_length c).In_ok-check_passing in
-    rw c.at.ensures (writes_short page_length page_in _ _ (open_file in_ok) (passing in_ok) (omega (arith, c.if-buffer-page_length.true, c.page_length.ensures)))
+    rw c.at.ensures
+    (writes_short page_length page_in _ _ (open_file in_ok) (passing in_ok)
+    (omega (arith, c.if-buffer-page_length.true, c.page_length.ensures)))
 
 pub write_page-requires : goal.write_page-requires
 write_page-requires c =

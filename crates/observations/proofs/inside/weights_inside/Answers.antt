@@ -19,7 +19,8 @@ pub loop-c-preserved : goal.loop-c-preserved
 loop-c-preserved c =
     let v = at c.args.weights.now c.loop-c.c in
     filled_next c.loop-c.invariant (omega arith)
-    (c.clamp.ensures ∙ ap (max c.least_weight.result) (min_comm v c.most_weight.result) ∙ ap₂ (λ lo hi. brought_within lo hi v) c.least_weight.ensures c.most_weight.ensures)
+    (c.clamp.ensures ∙ ap (max c.least_weight.result) (min_comm v c.most_weight.result)
+    ∙ ap₂ (λ lo hi. brought_within lo hi v) c.least_weight.ensures c.most_weight.ensures)
 
 pub returns : goal.returns
 returns c = record { filled = filled_to (omega arith) c.loop-c.invariant }

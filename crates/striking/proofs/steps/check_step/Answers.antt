@@ -51,7 +51,8 @@ mark_is c = let a = c.args in ap (λ n. not (eqb (at a.marks.now n) 0)) c.place_
 pub returns-then-marks-place_of-ne0 : goal.returns-then-marks-place_of-ne0
 returns-then-marks-place_of-ne0 c =
     let a = c.args in
-    rw c.at-then-marks-place_of-ne0.ensures (struck_already a.last a.channel a.year a.column a.marks.now (channel (goal.at.returns-then-marks-place_of-ne0 c).Else-channel-gt1)
+    rw c.at-then-marks-place_of-ne0.ensures
+    (struck_already a.last a.channel a.year a.column a.marks.now (channel (goal.at.returns-then-marks-place_of-ne0 c).Else-channel-gt1)
     (there (goal.at.returns-then-marks-place_of-ne0 c).Else-not-is_step)
     (sym (mark_is (goal.at.returns-then-marks-place_of-ne0 c).After-place_of) ∙ ap not (ne_eqb _ 0 c.if-marks-place_of-ne0.true)))
 

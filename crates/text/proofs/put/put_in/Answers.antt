@@ -7,4 +7,6 @@ use Rattle.text.proofs.put.put_in.Goals as goal
 
 pub returns : goal.returns
 returns g c =
-    in_words (take_rest c.spell-spelt.result.bytes (20 - c.args.columns) ∙ spelt_columns c.args.columns c.spell-spelt.ensures c.requires.fits c.requires.few) c.put.ensures
+    in_words
+    (take_rest c.spell-spelt.result.bytes (20 - c.args.columns)
+    ∙ spelt_columns c.args.columns c.spell-spelt.ensures c.requires.fits c.requires.few) c.put.ensures
