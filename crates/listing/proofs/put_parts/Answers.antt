@@ -19,8 +19,7 @@ loop-k-init c = (refl, nothing _ _ c.requires.on)
 
 pub unwrap-mean-requires : goal.unwrap-mean-requires
 unwrap-mean-requires c =
-    let within = signed_value (part_at c.loop-k.k) c.args.«record».now (omega (arith, c.requires.years)) in
-    rw (c.signed_4.ensures, within) refl
+    rw (c.signed_4.ensures ∙ signed_value (part_at c.loop-k.k) c.args.«record».now (omega (arith, c.requires.years))) refl
 
 pub loop-k-preserved : goal.loop-k-preserved
 loop-k-preserved c =
