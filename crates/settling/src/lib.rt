@@ -71,11 +71,11 @@ pub fn spent(total: u64) -> Printed
     Printed { bytes, end }
 }
 
-pub fn refused(refusal: Refusal) -> Printed
-    ensures { Prints (refusal_line (number_of refusal.reason) refusal.place) result }
+pub fn refused(number: u64, place: usize) -> Printed
+    ensures { Prints (refusal_line number place) result }
 {
     let mut bytes = [0u8; 4096];
-    let end = put_refusal(&mut bytes, refusal.reason.number(), refusal.place);
+    let end = put_refusal(&mut bytes, number, place);
     Printed { bytes, end }
 }
 
@@ -91,7 +91,7 @@ where
     match settling.answer {
         Ok(Progress::Settled(total)) => make(settling.session, total),
         Ok(Progress::Going(total)) => spent(total),
-        Err(refusal) => refused(refusal),
+        Err(refusal) => refused(refusal.reason.number(), refusal.place),
     }
 }
 

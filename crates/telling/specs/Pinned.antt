@@ -1,6 +1,5 @@
 -- What C is told, case by case and of every number, as include/desk.h has it.
 use Rattle.std.specs.Prelude.{ℕ, ◌≡◌, List, ℤ, pos, replicate, Ok, Err}
-use Rattle.integers.specs.Summation.{total}
 use Rattle.definitions.specs.Layout.{row_at, row_length}
 use Rattle.definitions.specs.Refusals.{clear, refuses}
 use Rattle.definitions.specs.Matrix.{passed, fails}

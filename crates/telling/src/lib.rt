@@ -77,10 +77,16 @@ impl From<refusals::Refusal> for Refusal {
     ghost from_gives = { λ r told. told ≡ record { number = number_of r.reason; place = r.place } };
 
     fn from(r: refusals::Refusal) -> Refusal {
-        Refusal {
-            number: r.reason.number(),
-            place: r.place as u64,
-        }
+        refusal_of(r.reason.number(), r.place)
+    }
+}
+
+pub fn refusal_of(number: u64, place: usize) -> Refusal
+    ensures { result ≡ record { number = number; place = place } }
+{
+    Refusal {
+        number,
+        place: place as u64,
     }
 }
 
