@@ -4,7 +4,6 @@
 ghost use Rattle.std.specs.Prelude.{ℕ};
 ghost use Rattle.definitions.specs.Programs.{refusal_line, spent_line};
 ghost use Rattle.laws.specs.Printed.{MeanSettled};
-ghost use Rattle.layout.specs.Refusals.{number_of};
 ghost use Rattle.text.specs.Added.{OnPage};
 ghost use Rattle.holding.specs.State.{state_of};
 ghost use Rattle.session.specs.Value.{held_by};
@@ -14,7 +13,7 @@ ghost use Rattle.settling.specs.Told.{Told};
 
 pub use crate::gathered::Printed;
 use session::Session;
-use session::answers::{Outcome, Progress, Reason, Refusal};
+use session::answers::{Outcome, Progress, Reason};
 use session::calls::{open, sweep};
 use session::state::empty;
 use std::io;
