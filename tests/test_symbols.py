@@ -58,7 +58,7 @@ EXAMPLES, TABLE = "definitions/Examples", "definitions/JointTable"
 # Where `total` is that of the sweeps, and no sum.
 OF_SWEEPS = set(
     "definitions/Machine definitions/Programs definitions/Sweep desk/Calls holding/Pinned holding/State judging/Judges laws/Number16 "
-    "session/Pinned session/Value showing/Shows sweeping/Sweeps telling/Told writing/Writes".split()
+    "session/Pinned session/Value showing/Shows sweeping/Sweeps telling/Pinned telling/Told writing/Writes".split()
 )
 
 # Files that have strings.

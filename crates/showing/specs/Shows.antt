@@ -1,5 +1,5 @@
 -- The contract of figures. The machine has no such call: what is shown of its state is defined here.
-use Rattle.std.specs.Prelude.{ℕ, ◌+◌, ◌*◌, ◌/◌, ◌%◌, ◌<◌, ◌≡◌, List, ℤ, pos, get_or, replicate, Result, Ok, Err, IsOkAnd}
+use Rattle.std.specs.Prelude.{ℕ, ◌+◌, ◌*◌, ◌/◌, ◌%◌, ◌<◌, ◌≡◌, List, ℤ, get_or, Result, Ok, Err, IsOkAnd}
 use Rattle.definitions.specs.Words.{part, tab_from}
 use Rattle.definitions.specs.Layout.{last_year, closeness, parts}
 use Rattle.definitions.specs.Matrix as D
@@ -19,16 +19,6 @@ in_arrays F = record {
   own = tab_from 0 31 (λ k. get_or F.own k 0);
   matrix = tab_from 0 961 (λ c. entry F (c / 31) (c % 31));
   right_hand = tab_from 0 31 (part F.right_hand_side);
-}
-
--- what stands for figures where none are shown
-abbrev pub no_figures : Figures
-no_figures = record {
-  last = 0;
-  closeness = 0;
-  own = replicate 31 0;
-  matrix = replicate 961 (pos 0);
-  right_hand = replicate 31 (pos 0);
 }
 
 unfoldable pub shows_to : State D.Figures → Result Figures Refusal

@@ -1,5 +1,5 @@
 -- What C is told of an answer of the machine, in numbers; whatever an answer does not have is 0.
-use Rattle.std.specs.Prelude.{ℕ, pos, Result, Ok, Err}
+use Rattle.std.specs.Prelude.{ℕ, pos, replicate, Result, Ok, Err}
 use Rattle.definitions.specs.Layout.{row_at, row_length}
 use Rattle.definitions.specs.Refusals.{Check, clear, refuses}
 use Rattle.definitions.specs.Matrix.{passed, fails}
@@ -8,7 +8,6 @@ use Rattle.definitions.specs.Machine.{Answer, refused, opened, judged, settled, 
 use Rattle.layout.specs.declared.refusals.Refusal.{Refusal as Refused}
 use Rattle.layout.specs.Refusals.{refused_as}
 use Rattle.chain.specs.declared.arrays.Figures.{Figures}
-use Rattle.showing.specs.Shows.{no_figures}
 use Rattle.telling.specs.declared.Refusal.{Refusal}
 use Rattle.telling.specs.declared.Judged.{Judged}
 use Rattle.telling.specs.declared.Swept.{Swept}
@@ -81,6 +80,16 @@ system_of refusal F = record {
   own = F.own;
   matrix = F.matrix;
   right_hand = F.right_hand;
+}
+
+-- what stands for figures where none are shown
+abbrev pub no_figures : Figures
+no_figures = record {
+  last = 0;
+  closeness = 0;
+  own = replicate 31 0;
+  matrix = replicate 961 (pos 0);
+  right_hand = replicate 31 (pos 0);
 }
 
 abbrev pub system_told : Result Figures Refused → System

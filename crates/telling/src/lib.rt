@@ -198,15 +198,17 @@ fn system_of(refusal: Refusal, figures: Figures) -> System
 pub fn system_told(shown: Result<Figures, refusals::Refusal>) -> System
     ensures { result ≡ system_told shown }
 {
-    let nothing = Figures {
-        last: 0,
-        closeness: 0,
-        own: [0; 31],
-        matrix: [0; 961],
-        right_hand: [0; 31],
-    };
     match shown {
         Ok(figures) => system_of(NONE, figures),
-        Err(refusal) => system_of(refusal.into(), nothing),
+        Err(refusal) => {
+            let nothing = Figures {
+                last: 0,
+                closeness: 0,
+                own: [0; 31],
+                matrix: [0; 961],
+                right_hand: [0; 31],
+            };
+            system_of(refusal.into(), nothing)
+        }
     }
 }
