@@ -13,7 +13,7 @@ ghost use Rattle.observations.specs.Inside.{
 
 use crate::kept::{MOST_RATIO_WEIGHT, MOST_WEIGHT};
 use crate::{PRIOR_MEANS, RATIO_WEIGHTS};
-use arithmetic::limits::brought_back;
+use arithmetic::limits::{brought_back, brought_within};
 
 const LOGARITHM_LIMIT: i64 = 46_137_344;
 
@@ -69,7 +69,7 @@ pub fn weights_inside(weights: &[u64; 77], n: usize) -> [u64; 77]
 {
     let mut inside = [0u64; 77];
     for c in 0..77 {
-        inside[c] = weights[c].clamp(least_weight(n, c), most_weight(c));
+        inside[c] = brought_within(least_weight(n, c), most_weight(c), weights[c]);
     }
     inside
 }

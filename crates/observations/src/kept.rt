@@ -7,7 +7,7 @@ ghost use Rattle.observations.specs.Arrays.{at, mean_at, prior_at, ratio_at, bro
 
 use crate::inside::logarithm_within;
 use crate::{PRIOR_MEANS, PRIOR_WEIGHTS, RATIO_WEIGHTS};
-use arithmetic::limits::brought_back;
+use arithmetic::limits::{brought_back, brought_within};
 use scales::{Ticks, Variance, Weight};
 
 const LEAST_VARIANCE: u64 = 1 << 18;
@@ -31,7 +31,7 @@ pub fn kept_variance(variances: &[u64; 31], k: usize) -> Variance
     requires { k < 31 }
     ensures { result.0 ≡ brought_within (2 ^ 18) (2 ^ 40) (at variances.now k) }
 {
-    Variance(variances[k].clamp(LEAST_VARIANCE, MOST_VARIANCE))
+    Variance(brought_within(LEAST_VARIANCE, MOST_VARIANCE, variances[k]))
 }
 
 // The prior mean of part k.
@@ -47,7 +47,7 @@ pub fn kept_weight(weights: &[u64; 77], k: usize) -> Weight
     requires { k < 31 }
     ensures { result.0 ≡ brought_within 1 (2 ^ 28) (at weights.now k) }
 {
-    Weight(weights[k].clamp(1, MOST_WEIGHT))
+    Weight(brought_within(1, MOST_WEIGHT, weights[k]))
 }
 
 // That of its prior.
@@ -55,7 +55,7 @@ pub fn kept_prior_weight(weights: &[u64; 77], k: usize) -> Weight
     requires { k < 31 }
     ensures { result.0 ≡ brought_within 0 (2 ^ 28) (prior_at weights.now k) }
 {
-    Weight(weights[PRIOR_WEIGHTS + k].min(MOST_WEIGHT))
+    Weight(brought_within(0, MOST_WEIGHT, weights[PRIOR_WEIGHTS + k]))
 }
 
 // That of the ratio of development year d.
@@ -63,5 +63,5 @@ pub fn kept_ratio_weight(weights: &[u64; 77], d: usize) -> Weight
     requires { d < 15 }
     ensures { result.0 ≡ brought_within 0 (2 ^ 27) (ratio_at weights.now d) }
 {
-    Weight(weights[RATIO_WEIGHTS + d].min(MOST_RATIO_WEIGHT))
+    Weight(brought_within(0, MOST_RATIO_WEIGHT, weights[RATIO_WEIGHTS + d]))
 }

@@ -9,5 +9,8 @@ pub fn start_mean<'a>(mean: &'a mut [i64; 31], ticks: &'a [i64; 303], last: u8)
 {
     let count = 2 * (last as usize) + 1;
     *mean = [0; 31];
-    mean[..count].copy_from_slice(&ticks[PRIOR_MEANS..PRIOR_MEANS + count]);
+    // One by one: by a copy of the slice the library for C would want another function of the C library.
+    for k in 0..count {
+        mean[k] = ticks[PRIOR_MEANS + k];
+    }
 }
