@@ -54,6 +54,22 @@ module _ (at : ℕ) (s : Bytes) where
   unfolding byte_field_at
   byte_end h = rw (lt-leb (at + 1) (length s) (omega arith))
 
+  byte_value_cases : (b : Bool) (v : ℕ) → cond b (Some (unsigned 1 at s)) None ≡ Some v → v ≡ unsigned 1 at s
+  byte_value_cases true v e = cc
+  byte_value_cases false v e = cc
+
+  byte_end_cases : (b : Bool) → cond b (Some (unsigned 1 at s)) None ≡ None → b ≡ false
+  byte_end_cases true e = cc
+  byte_end_cases false e = refl
+
+  pub byte_read : {r : Option ℕ} {v : ℕ} → r ≡ byte_field_at at s → r ≡ Some v → v ≡ unsigned 1 at s
+  unfolding byte_field_at
+  byte_read {v} e k = byte_value_cases (leb (at + 1) (length s)) v (sym e ∙ k)
+
+  pub byte_outside : {r : Option ℕ} → r ≡ byte_field_at at s → r ≡ None → length s ≤ at
+  unfolding byte_field_at
+  byte_outside e k = omega (arith, leb-false (at + 1) (length s) (byte_end_cases (leb (at + 1) (length s)) (sym e ∙ k)))
+
   pub signed_value : at + 4 ≤ length s → signed_field_at at s ≡ Some (signed at s)
   unfolding signed_field_at
   signed_value h = rw (le-leb (at + 4) (length s) h)

@@ -91,7 +91,13 @@ fn check_length(s: &[u8], least: usize) -> Result<(), Refusal>
     requires { 4 ≤ least }
     ensures { told result ≡ length_check least s.now }
 {
-    if s.len() < least || unsigned_4(s, 0) != Some(s.len() as u64) {
+    if s.len() < least {
+        return Err(Reason::Length.at(0));
+    }
+    let Some(word) = unsigned_4(s, 0) else {
+        return Err(Reason::Length.at(0));
+    };
+    if word != s.len() as u64 {
         return Err(Reason::Length.at(0));
     }
     Ok(())
@@ -101,7 +107,10 @@ fn check_version(s: &[u8]) -> Result<(), Refusal>
     requires { 5 ≤ length s.now }
     ensures { told result ≡ check2 s.now }
 {
-    if unsigned_1(s, 4) != Some(1) {
+    let Some(version) = unsigned_1(s, 4) else {
+        return Err(Reason::Version.at(4));
+    };
+    if version != 1 {
         return Err(Reason::Version.at(4));
     }
     Ok(())

@@ -8,7 +8,10 @@ use fields::unsigned_1;
 pub fn last_year(s: &[u8]) -> u8
     ensures { result ≡ last_year s.now }
 {
-    unsigned_1(s, 5).unwrap_or(0)
+    let Some(last) = unsigned_1(s, 5) else {
+        return 0;
+    };
+    last
 }
 
 // Parts of a mean, and variances, and priors.

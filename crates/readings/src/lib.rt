@@ -25,7 +25,10 @@ pub fn closeness_of(s: &[u8]) -> u64
     requires { Whole s.now }
     ensures { result ≡ closeness s.now }
 {
-    unsigned_4(s, 6).unwrap()
+    let Some(e) = unsigned_4(s, 6) else {
+        return 0;
+    };
+    e
 }
 
 // An 8-byte field that ends inside the file.
@@ -33,7 +36,10 @@ fn eight(s: &[u8], at: usize) -> u64
     requires { at + 8 ≤ length s.now }
     ensures { result ≡ unsigned 8 at s.now }
 {
-    unsigned_8(s, at).unwrap()
+    let Some(v) = unsigned_8(s, at) else {
+        return 0;
+    };
+    v
 }
 
 // σ² of Φ_0..Φ_J, then τ² of Ψ_0..Ψ_(J−1).
@@ -49,7 +55,10 @@ pub fn prior_mean(s: &[u8], k: usize) -> Ticks
     ensures { result.0 ≡ prior_mean s.now k }
 {
     let at = 10 + 8 * parts_of(last_year(s)) + 12 * k;
-    Ticks(signed_4(s, at).unwrap())
+    let Some(mean) = signed_4(s, at) else {
+        return Ticks(0);
+    };
+    Ticks(mean)
 }
 
 pub fn prior_variance(s: &[u8], k: usize) -> Variance

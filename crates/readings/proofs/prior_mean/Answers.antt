@@ -1,9 +1,9 @@
 -- The place is the definition's.
-use Rattle.std.proofs.Common.{◌≡◌, ◌+◌, ◌*◌, ap, ◌∙◌, arith, refl}
+use Rattle.std.proofs.Common.{◌≡◌, ◌+◌, ◌*◌, ap, ◌∙◌, arith}
 use Rattle.std.proofs.Math.Facts.{to_z-of_z}
 use mir.Syntax.{w64}
 use Rattle.definitions.specs.Layout.{signed, last_year, prior_mean_at}
-use Rattle.fields.specs.Fields.{signed_read, signed_value}
+use Rattle.fields.specs.Fields.{signed_read, signed_outside}
 use Rattle.layout.specs.Places.{prior_inside}
 use Rattle.readings.proofs.prior_mean.Goals as goal
 use Rattle.readings.proofs.prior_mean.Goals.{After-parts_of}
@@ -11,17 +11,22 @@ use Rattle.readings.proofs.prior_mean.Goals.{After-parts_of}
 place : (c : After-parts_of) → let a = c.args in 10 + 8 * c.parts_of.result + 12 * a.k ≡ prior_mean_at (last_year a.s.now) a.k
 place c = omega arith
 
-pub unwrap-requires : goal.unwrap-requires
-unwrap-requires c =
+pub returns-in_default : goal.returns-in_default
+returns-in_default c =
     let a = c.args in
-    let inside = prior_inside a.s.now c.requires.0 a.k c.requires.1 in
-    rw (c.signed_4.ensures
-    ∙ signed_value (10 + 8 * c.parts_of.result + 12 * a.k) a.s.now (omega (arith, place (goal.at.unwrap-requires c).After-parts_of, inside))) refl
+    let s = a.s.now in
+    absurd
+    (omega (
+      arith,
+      place (goal.at.returns-in_default c).After-parts_of,
+      prior_inside s c.requires.0 a.k c.requires.1,
+      signed_outside (10 + 8 * c.parts_of.result + 12 * a.k) s c.signed_4.ensures c.in_default.is,
+    ))
 
 pub returns : goal.returns
 returns c =
     let a = c.args in
     let s = a.s.now in
-    to_z-of_z {w = w64} {z = c.unwrap.result} (record { sfits = c.unwrap.type_inv })
-    ∙ signed_read (10 + 8 * c.parts_of.result + 12 * a.k) s c.signed_4.ensures c.unwrap.ensures
+    to_z-of_z {w = w64} {z = c.in-Some.mean} (record { sfits = c.in-Some.known_told-1-own.given.0.1 })
+    ∙ signed_read (10 + 8 * c.parts_of.result + 12 * a.k) s c.signed_4.ensures c.in-Some.is
     ∙ ap (λ at. signed at s) (place (goal.at.returns c).After-parts_of)
