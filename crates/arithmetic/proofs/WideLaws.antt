@@ -1,14 +1,47 @@
 -- Why product and long division of two words are right, and why nothing wraps.
-use Rattle.std.specs.Prelude.{ℕ, ◌+◌, ◌*◌, ◌/◌, ◌%◌, ◌^◌, ◌≤◌, ◌<◌, [], ◌∷◌, ℤ, pos, nat_abs, ◌+ℤ◌, ◌*ℤ◌}
-use Rattle.std.proofs.Common.{ap, ◌∙◌, lt_of_mul-lt-mul_right, arith}
+use Rattle.std.specs.Prelude.{ℕ, ◌+◌, ◌*◌, ◌/◌, ◌%◌, ◌^◌, ◌≤◌, ◌<◌, ◌≡◌, [], ◌∷◌, ℤ, pos, nat_abs, ◌+ℤ◌, ◌*ℤ◌}
+use Rattle.std.proofs.Common.{ap, ap₂, ◌∙◌, lt_of_mul-lt-mul_right, arith}
 use Rattle.std.proofs.Math.Nat.{div-add-mod}
+use Rattle.integers.specs.Floor.{floor_div, floor_rest, floor_rest_nonneg, floor_rest-<}
 use Rattle.integers.specs.Linear.{linear}
+use Rattle.integers.specs.Order.{nonneg_pos}
 use Rattle.integers.specs.Size.{nat_abs-*, nat_abs-*-≤}
 use Rattle.integers.specs.Solver.{ring, ◌⊞◌, ◌⊠◌, num, ◌≐◌}
 use Rattle.arithmetic.specs.declared.wide.Wide.{Wide}
 use Rattle.arithmetic.specs.declared.wide.Digit.{Digit}
 use Rattle.arithmetic.specs.declared.wide.Quotient.{Quotient}
-use Rattle.arithmetic.specs.Wide.{value_of, IsWide, Divides, OfProduct, NextDigit, OfDivision}
+use Rattle.arithmetic.specs.Wide.{value_of, IsWide, Divides, OfWord, OfProduct, NextDigit, OfDivision}
+
+-- ---- one word
+
+module _ {x : ℤ} {d : ℕ} (h : OfWord x d) where
+  abbrev pub q : ℤ
+  q = floor_div x d
+
+  abbrev pub left : ℤ
+  left = floor_rest x h.some
+
+  pub left_nonneg : pos (nat_abs left) ≡ left
+  left_nonneg = nonneg_pos (floor_rest_nonneg x h.some)
+
+  pub left_small : nat_abs left < d
+  left_small =
+      let from = floor_rest_nonneg x h.some in
+      let to = floor_rest-< x h.some in
+      simp linear (omega (arith, simp linear at from, simp linear at to))
+
+  pub multiple_small : nat_abs (q *ℤ pos d) < 2 ^ 63
+  multiple_small =
+      let from = floor_rest_nonneg x h.some in
+      let to = floor_rest-< x h.some in
+      let small = h.small in
+      simp linear (omega (arith, h.divisor_small, simp linear at from, simp linear at to, simp linear at small))
+
+  pub word_split : {f : ℤ} {r : ℕ} → f ≡ q → r ≡ nat_abs left → Divides x d (record { floor = f; rest = r })
+  word_split floor_is rest-is = record {
+    whole = ap₂ (λ f r. f *ℤ pos d +ℤ pos r) floor_is rest-is ∙ ap (λ z. q *ℤ pos d +ℤ z) left_nonneg ∙ simp linear (omega arith);
+    below = omega (arith, rest-is, left_small);
+  }
 
 -- a floor is not larger than its number
 pub floor_small : {x : ℤ} {d : ℕ} {r : Quotient} → Divides x d r → (b : ℕ) → nat_abs x ≤ b * d → nat_abs r.floor ≤ b

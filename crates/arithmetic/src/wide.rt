@@ -26,15 +26,17 @@ struct Digit {
     rest: u64,
 }
 
-// x / d rounded down, with the rest, of one word.
+// x / d rounded down, with the rest, of one word. The rest comes of a product, as `rem_euclid` would divide a second time.
 fn split(x: i64, d: u64) -> Quotient
     requires { OfWord x d }
     ensures { Divides x d result }
 {
     let divisor = d as i64;
+    let floor = floor(x, divisor);
+    let rest = x - floor * divisor;
     Quotient {
-        floor: floor(x, divisor),
-        rest: x.rem_euclid(divisor) as u64,
+        floor,
+        rest: rest as u64,
     }
 }
 
