@@ -37,6 +37,7 @@ module _ (page text bytes : List ℕ) (at count k : ℕ) (on : at ≤ length pag
     behind = drop-put_mid at k page bytes (at + count) (omega (arith, same)) on (omega (arith, long, same));
   }
 
+-- the bytes that are copied, and where they end
 pub returns : goal.returns
 returns c =
     placed c.args.page.now c.args.text.now _ c.args.at _ _ c.requires c.min-count.ensures (omega arith) c.copy_from_slice.ensures.after
