@@ -5,7 +5,7 @@ use Rattle.showing.proofs.ShowLaws.{shows_open, shows_closed}
 use Rattle.showing.proofs.figures_lent.Goals as goal
 
 pub returns-in_default : goal.returns-in_default
-returns-in_default c = rw c.at.ensures (shows_closed _ c.in_default.ensures)
+returns-in_default c = rw c.at.ensures (shows_closed _ c.in_default.ensures.0)
 
 pub front-weights-requires : goal.front-weights-requires
 front-weights-requires c =
