@@ -51,7 +51,7 @@ use Rattle.weighing.specs.Weighs as WeighCall
 use Rattle.weighing.specs.Weighs.{weighs_to}
 use Rattle.telling.specs.declared.System.{System}
 use Rattle.telling.specs.declared.Projected.{Projected}
-use Rattle.telling.specs.Told.{none, of_reason, answered, shown_or_told, told, refusal_told, judge_told, sweep_told, told_of_row, system_told, ultimate_told}
+use Rattle.telling.specs.Told.{none, of_reason, answered, shown_or_told, told, refusal_told, judge_told, sweep_told, told_of_row, system_of, system_told, ultimate_told}
 use Rattle.desk.specs.Calls.{Numbered, Opens, Strikes, Judges, Sweeps, Writes, figure_of, Projects, Weighs, Shows, Closes, ShowsRow}
 use Rattle.desk.specs.CallLaws.{itself}
 
@@ -251,6 +251,12 @@ shows_told s a h {r} e = record {
       subst (λ x. FiguresOf f (figures_at x.last x.closeness x.own x.matrix x.right_hand)) (sym e) h,
     )
     figures_of f (Err x) e h = absurd h
+
+-- what is put beside a refusal is told as the answer that has either
+pub puts_told : (s : Held) (a : Result Unit Refused) (F : Figures) → FiguresCall.Puts s a F → {r : System}
+    → r ≡ system_of (refusal_told (answered of_reason of_write a)) F → Shows s r
+puts_told s (Ok done) F h e = shows_told s (Ok F) h e
+puts_told s (Err x) F h e = shows_told s (Err x) h.0 (e ∙ ap (system_of (of_reason x)) h.1)
 
 -- ---- close
 

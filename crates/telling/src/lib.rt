@@ -10,7 +10,7 @@ ghost use Rattle.writing.specs.Writes.{of_write};
 ghost use Rattle.projecting.specs.Projects.{of_project};
 ghost use Rattle.striking.specs.Strikes.{of_strike};
 ghost use Rattle.telling.specs.declared.Refusal.{Refusal};
-ghost use Rattle.telling.specs.Told.{of_reason, answered, shown_or_told, refusal_told, judge_told, sweep_told, system_told, ultimate_told};
+ghost use Rattle.telling.specs.Told.{of_reason, answered, shown_or_told, refusal_told, judge_told, sweep_told, system_of, system_told, ultimate_told};
 
 use chain::arrays::Figures;
 use chain::judge::Judgement;
@@ -204,32 +204,38 @@ pub fn ultimate_told<E: Told>(a: Result<Ultimate, E>) -> Projected
     }
 }
 
-// Zeros where nothing is shown. Each struct is made where it is answered: with figures of zeros, and one place that tells either, the
-// compiler would copy the matrix twice more.
+// The figures beside their refusal, which is none where they are shown.
+pub fn system_of(refusal: Refusal, figures: Figures) -> System
+    ensures { result ≡ system_of refusal figures }
+{
+    let own = figures.own;
+    let matrix = figures.matrix;
+    let right_hand = figures.right_hand;
+    System {
+        refusal,
+        last: figures.last as u64,
+        closeness: figures.closeness,
+        own,
+        matrix,
+        right_hand,
+    }
+}
+
+// Zeros where nothing is shown.
 pub fn system_told<E: Told>(shown: Result<Figures, E>) -> System
     ensures { result ≡ system_told (shown_or_told E.told shown) }
 {
     match shown {
-        Ok(figures) => {
-            let own = figures.own;
-            let matrix = figures.matrix;
-            let right_hand = figures.right_hand;
-            System {
-                refusal: NONE,
-                last: figures.last as u64,
-                closeness: figures.closeness,
-                own,
-                matrix,
-                right_hand,
-            }
+        Ok(figures) => system_of(NONE, figures),
+        Err(refusal) => {
+            let nothing = Figures {
+                last: 0,
+                closeness: 0,
+                own: [0; 31],
+                matrix: [0; 961],
+                right_hand: [0; 31],
+            };
+            system_of(refusal.told(), nothing)
         }
-        Err(refusal) => System {
-            refusal: refusal.told(),
-            last: 0,
-            closeness: 0,
-            own: [0; 31],
-            matrix: [0; 961],
-            right_hand: [0; 31],
-        },
     }
 }
