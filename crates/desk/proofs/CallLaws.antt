@@ -51,7 +51,8 @@ use Rattle.weighing.specs.Weighs as WeighCall
 use Rattle.weighing.specs.Weighs.{weighs_to}
 use Rattle.telling.specs.declared.System.{System}
 use Rattle.telling.specs.declared.Projected.{Projected}
-use Rattle.telling.specs.Told.{none, of_reason, answered, shown_or_told, told, refusal_told, judge_told, sweep_told, told_of_row, system_of, system_told, ultimate_told}
+use Rattle.telling.specs.Told.{none, of_reason, answered, shown_or_told, told, refusal_told, judge_told, sweep_told, told_of_row}
+use Rattle.telling.specs.Told.{system_of, system_told, ultimate_told}
 use Rattle.desk.specs.Calls.{Numbered, Opens, Strikes, Judges, Sweeps, Writes, figure_of, Projects, Weighs, Shows, Closes, ShowsRow}
 use Rattle.desk.specs.CallLaws.{itself}
 

@@ -103,7 +103,10 @@ impl Told for Refusal {
     ghost told = { λ r. r };
 
     fn told(self) -> Refusal {
-        self
+        Refusal {
+            number: self.number,
+            place: self.place,
+        }
     }
 }
 
