@@ -67,6 +67,7 @@ CONTRACTS = {
     "strike_lent": (behind_result(STRIKES), "striking/Strikes holding/State"),
     "residues_lent": (f"{WEIGHS} {LENT} lent.now {BUFFER}", "weighing/Weighs holding/State"),
     "figures_lent": (f"Shows {LENT} result", "showing/Shows holding/State"),
+    "figures_put": (f"Puts {LENT} result figures.new", "showing/Shows holding/State"),
     "row": ("result.now ≡ row_part s.now channel year", "definitions/Machine"),
     "row_told": ("told result ≡ row_check s.now channel year", "definitions/Refusals layout/Refusals"),
     "desk_open_lent": (behind_result(OPENS), "desk/Calls holding/State observations/Arrays"),

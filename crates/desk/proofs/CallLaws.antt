@@ -17,7 +17,7 @@ use Rattle.readings.specs.Rows.{Places}
 use Rattle.layout.specs.declared.refusals.Reason.{Reason}
 use Rattle.layout.specs.declared.refusals.Reason.TheVariants as R
 use Rattle.layout.specs.declared.refusals.Refusal.{Refusal as Refused}
-use Rattle.layout.specs.Refusals.{number_of}
+use Rattle.layout.specs.Refusals.{number_of, refused_as}
 use Rattle.chain.specs.declared.arrays.Figures.{Figures}
 use Rattle.chain.specs.declared.judge.Judgement.{Judgement}
 use Rattle.chain.specs.declared.judge.Judgement.TheVariants as J
@@ -51,12 +51,20 @@ use Rattle.weighing.specs.Weighs as WeighCall
 use Rattle.weighing.specs.Weighs.{weighs_to}
 use Rattle.telling.specs.declared.System.{System}
 use Rattle.telling.specs.declared.Projected.{Projected}
-use Rattle.telling.specs.Told.{none, told, refusal_told, judge_told, sweep_told, told_of_row, system_told, ultimate_told}
+use Rattle.telling.specs.Told.{none, of_reason, answered, shown_or_told, told, refusal_told, judge_told, sweep_told, told_of_row}
+use Rattle.telling.specs.Told.{system_of, system_told, ultimate_told}
 use Rattle.desk.specs.Calls.{Numbered, Opens, Strikes, Judges, Sweeps, Writes, figure_of, Projects, Weighs, Shows, Closes, ShowsRow}
 use Rattle.desk.specs.CallLaws.{itself}
 
 never_0 : {a : Answer} → Listed.NumberedAnswer a → Numbered a
 never_0 listed place e = subst Listed.NumberedAnswer e listed
+
+-- ---- what is told of a refusal by its reason is told of the machine's answer
+
+pub of_answer : {X R : Type 0} (tell : Answer → R) (of : Result X Refused → Answer) → ((x : Refused) → of (Err x) ≡ refused_as x)
+    → (a : Result X Refused) {r : R} → r ≡ tell (answered of_reason of a) → r ≡ tell (of a)
+of_answer tell of same (Ok x) e = e
+of_answer tell of same (Err x) e = e ∙ ap tell (sym (same x))
 
 -- ---- open
 
@@ -229,20 +237,27 @@ reason_numbered R.UltimateYear e = absurd (omega arith)
 reason_numbered R.Step e = absurd (omega arith)
 reason_numbered R.LastStep e = absurd (omega arith)
 
-pub shows_told : (s : Held) (a : Result Figures Refused) → FiguresCall.Shows s a → {r : System} → r ≡ system_told a → Shows s r
+pub shows_told : (s : Held) (a : Result Figures Refused) → FiguresCall.Shows s a → {r : System}
+    → r ≡ system_told (shown_or_told of_reason a) → Shows s r
 shows_told s a h {r} e = record {
-  told = e ∙ ap system_told h.shown;
+  told = e ∙ ap (λ x. system_told (shown_or_told of_reason x)) h.shown;
   numbered = λ x _. reason_numbered x.reason;
-  of_file = λ f μ total open-file. of_answer f a e (h.of_file f μ total open-file);
+  of_file = λ f μ total open-file. figures_of f a e (h.of_file f μ total open-file);
 }
   where
-    of_answer : (f : StruckFile) (a : Result Figures Refused) → r ≡ system_told a → IsOkAnd a (λ F. FiguresOf f F)
+    figures_of : (f : StruckFile) (a : Result Figures Refused) → r ≡ system_told (shown_or_told of_reason a) → IsOkAnd a (λ F. FiguresOf f F)
         → (r.refusal.number ≡ 0) × FiguresOf f (figures_at r.last r.closeness r.own r.matrix r.right_hand)
-    of_answer f (Ok F) e h = (
+    figures_of f (Ok F) e h = (
       ap (λ x. x.refusal.number) e,
       subst (λ x. FiguresOf f (figures_at x.last x.closeness x.own x.matrix x.right_hand)) (sym e) h,
     )
-    of_answer f (Err x) e h = absurd h
+    figures_of f (Err x) e h = absurd h
+
+-- what is put beside a refusal is told as the answer that has either
+pub puts_told : (s : Held) (a : Result Unit Refused) (F : Figures) → FiguresCall.Puts s a F → {r : System}
+    → r ≡ system_of (refusal_told (answered of_reason of_write a)) F → Shows s r
+puts_told s (Ok done) F h e = shows_told s (Ok F) h e
+puts_told s (Err x) F h e = shows_told s (Err x) h.0 (e ∙ ap (system_of (of_reason x)) h.1)
 
 -- ---- close
 

@@ -28,7 +28,7 @@ use Rattle.telling.specs.declared.Judged.{Judged}
 use Rattle.telling.specs.declared.Swept.{Swept}
 use Rattle.telling.specs.declared.RowShown.{RowShown}
 use Rattle.telling.specs.declared.System.{System}
-use Rattle.telling.specs.Told.{refusal_told, judge_told, sweep_told, told_of_row, system_told}
+use Rattle.telling.specs.Told.{of_reason, shown_or_told, refusal_told, judge_told, sweep_told, told_of_row, system_told}
 use Rattle.desk.specs.Calls.{Opens, Judges, Sweeps, Writes, Reads, Pages, Shows, Closes, ShowsRow}
 use Rattle.desk.specs.Pinned.{refusal}
 
@@ -116,14 +116,14 @@ module _ (s : Held) (r : System) (call : Shows s r) where
         right_hand = replicate 31 (pos 0);
       }
   unfolding shows_to
-  none_shown none = call.told ∙ ap (λ st. system_told (shows_to st)) none
+  none_shown none = call.told ∙ ap (λ st. system_told (shown_or_told of_reason (shows_to st))) none
 
   pub figures_numbered : (e : Refused) → shows_to (state_of s) ≡ Err e → number_of e.reason ≢ 0
   figures_numbered = call.numbered
 
   module _ (F : Figures) (μ : List ℤ) (count : ℕ) (some : state_of s ≡ holds F μ count) where
-    told_of : r ≡ system_told (shows_to (state_of s)) → r ≡ system_told (shows_to (holds F μ count))
-    told_of told = told ∙ ap (λ st. system_told (shows_to st)) some
+    told_of : r ≡ system_told (shown_or_told of_reason (shows_to (state_of s))) → r ≡ system_told (shown_or_told of_reason (shows_to (holds F μ count)))
+    told_of told = told ∙ ap (λ st. system_told (shown_or_told of_reason (shows_to st))) some
 
     pub shown_numbers : (r.refusal ≡ refusal 0 0) × (r.last ≡ F.last) × (r.closeness ≡ F.closeness)
     unfolding shows_to

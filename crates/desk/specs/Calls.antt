@@ -33,7 +33,7 @@ use Rattle.telling.specs.declared.Swept.{Swept}
 use Rattle.telling.specs.declared.RowShown.{RowShown}
 use Rattle.telling.specs.declared.System.{System}
 use Rattle.telling.specs.declared.Projected.{Projected}
-use Rattle.telling.specs.Told.{refusal_told, judge_told, sweep_told, told_of_row, system_told, ultimate_told}
+use Rattle.telling.specs.Told.{of_reason, shown_or_told, refusal_told, judge_told, sweep_told, told_of_row, system_told, ultimate_told}
 
 -- no refusal has the number 0, so that 0 says that there is none
 abbrev pub Numbered : Answer → Type 0
@@ -119,7 +119,7 @@ WeighsLent ticks weights struck s meanRecord before r after =
     (variances : List ℕ) → Weighs (observations_at ticks weights variances struck) s meanRecord before r after
 
 pub record Shows (s : Held) (r : System) : Type 0 where
-  pub told : r ≡ system_told (shows_to (state_of s))
+  pub told : r ≡ system_told (shown_or_told of_reason (shows_to (state_of s)))
   pub numbered : (e : Refused) → shows_to (state_of s) ≡ Err e → number_of e.reason ≢ 0
   pub of_file : (f : StruckFile) (μ : List ℤ) (total : ℕ) → HoldsFile s f μ total
       → (r.refusal.number ≡ 0) × FiguresOf f (figures_at r.last r.closeness r.own r.matrix r.right_hand)

@@ -5,12 +5,12 @@ ghost use Rattle.desk.specs.Calls.{Opens, StrikesLent, Judges, Sweeps, Reads, Pa
 
 use readings::rows::{row_place, row_told};
 use session::lent::{
-    figures_lent, judge_lent, open_lent, page_lent, read_lent, residues_lent, strike_lent,
-    sweep_lent, ultimate_lent,
+    NO_FIGURES, figures_put, judge_lent, open_lent, page_lent, read_lent, residues_lent,
+    strike_lent, sweep_lent, ultimate_lent,
 };
 use telling::{
     Judged, NONE, Projected, Refusal, RowShown, Swept, System, done_told, judge_told, row_as,
-    sweep_told, system_told, ultimate_told,
+    sweep_told, system_of, ultimate_told,
 };
 
 // 22, then 1 to 10.
@@ -253,7 +253,8 @@ pub extern "C" fn desk_figures_lent<'a>(
         (held_in held.now own.now matrix.now right_hand.now mean.now)
         result }
 {
-    system_told(figures_lent(
+    let mut figures = NO_FIGURES;
+    let answer = figures_put(
         held[0] as usize,
         held[1],
         held[2],
@@ -261,7 +262,9 @@ pub extern "C" fn desk_figures_lent<'a>(
         matrix,
         right_hand,
         mean,
-    ))
+        &mut figures,
+    );
+    system_of(done_told(answer), figures)
 }
 
 // Never refuses: with J = 0 nothing is open, whatever the arrays hold.

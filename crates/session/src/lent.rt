@@ -4,7 +4,7 @@
 pub use judging::judge_lent;
 pub use opening::open_lent;
 pub use projecting::ultimate_lent;
-pub use showing::figures_lent;
+pub use showing::{NO_FIGURES, figures_lent, figures_put};
 pub use striking::strike_lent;
 pub use sweeping::sweep_lent;
 pub use weighing::residues_lent;

@@ -15,19 +15,19 @@ pub record OfRow (A v : List ℤ) (k : ℕ) : Type 0 where
 abbrev pub RowShown : List ℤ → ℕ → Option Unit → List ℤ → Type 0
 RowShown A k r v = MatchOption r (¬ RowFits A k) (λ _. RowFits A k × Mirrored A (31 * (k + 1)) v)
 
--- ---- all rows
+pub record Zeros (v : List ℤ) : Type 0 where
+  pub empty : v ≡ replicate 961 (pos 0)
+
+-- ---- all rows; zeros where one does not fit
 
 pub record OfMatrix (count : ℕ) (v : List ℤ) : Type 0 where
   pub few : count ≤ 31
   pub empty : v ≡ replicate 961 (pos 0)
 
 abbrev pub MatrixShown : ℕ → List ℤ → Option Unit → List ℤ → Type 0
-MatrixShown count A r v = MatchOption r (¬ RowsFit A count) (λ _. RowsFit A count × (v ≡ matrix_shown count A))
+MatrixShown count A r v = MatchOption r (¬ RowsFit A count × Zeros v) (λ _. RowsFit A count × (v ≡ matrix_shown count A))
 
--- ---- all parts of an open file
-
-pub record Zeros (v : List ℤ) : Type 0 where
-  pub empty : v ≡ replicate 961 (pos 0)
+-- ---- all parts of an open file; zeros where none is open
 
 pub record AllShown (s : Held) (n : ℕ) (v : List ℤ) : Type 0 where
   pub fits : Fits s
@@ -35,4 +35,4 @@ pub record AllShown (s : Held) (n : ℕ) (v : List ℤ) : Type 0 where
   pub is : v ≡ matrix_shown n s.figures.matrix
 
 abbrev pub PartsShown : Held → Option ℕ → List ℤ → Type 0
-PartsShown s r v = MatchOption r (¬ Fits s) (λ n. AllShown s n v)
+PartsShown s r v = MatchOption r (¬ Fits s × Zeros v) (λ n. AllShown s n v)

@@ -1,5 +1,5 @@
 -- The contract of figures. The machine has no such call: what is shown of its state is defined here.
-use Rattle.std.specs.Prelude.{ℕ, ◌+◌, ◌*◌, ◌/◌, ◌%◌, ◌<◌, ◌≡◌, List, ℤ, get_or, Result, Ok, Err, IsOkAnd}
+use Rattle.std.specs.Prelude.{ℕ, ◌+◌, ◌*◌, ◌/◌, ◌%◌, ◌<◌, ◌≡◌, List, ℤ, pos, get_or, replicate, Result, Ok, Err, IsOkAnd, MatchResult}
 use Rattle.definitions.specs.Words.{part, tab_from}
 use Rattle.definitions.specs.Layout.{last_year, closeness, parts}
 use Rattle.definitions.specs.Matrix as D
@@ -38,3 +38,17 @@ pub record Shows (s : Held) (r : Result Figures Refusal) : Type 0 where
   pub shown : r ≡ shows_to (state_of s)
   -- the very figures that judge the means of an open file
   pub of_file : (f : StruckFile) (μ : List ℤ) (total : ℕ) → HoldsFile s f μ total → IsOkAnd r (λ F. FiguresOf f F)
+
+-- ---- in a place that is lent, which has them afterwards
+
+abbrev pub no_figures : Figures
+no_figures = record {
+  last = 0;
+  closeness = 0;
+  own = replicate 31 0;
+  matrix = replicate 961 (pos 0);
+  right_hand = replicate 31 (pos 0);
+}
+
+abbrev pub Puts : Held → Result Unit Refusal → Figures → Type 0
+Puts s r F = MatchResult r (λ _. Shows s (Ok F)) (λ e. Shows s (Err e) × (F ≡ no_figures))

@@ -36,18 +36,23 @@ fn row_shown(matrix: &[i64; 961], shown: &mut [i64; 961], k: usize) -> Option<()
     Some(())
 }
 
-// The matrix of so many parts, in an array of zeros, where every row fits: one pass tests it and shows it.
+// The matrix of so many parts, in an array of zeros, where every row fits: one pass tests it and shows it. Where a row does not fit the
+// array is all zeros again.
 pub fn matrix_shown(count: usize, matrix: &[i64; 961], shown: &mut [i64; 961]) -> Option<()>
     requires { OfMatrix count shown.old }
     ensures { MatrixShown count matrix.now result shown.new }
 {
     for k in 0..count {
-        row_shown(matrix, shown, k)?;
+        if row_shown(matrix, shown, k).is_none() {
+            *shown = [0; 961];
+            return None;
+        }
     }
     Some(())
 }
 
-// How many parts are shown, where a file is open: all of them. Their matrix is put in an array of zeros.
+// How many parts are shown, where a file is open: all of them. Their matrix is put in an array of zeros, which
+// stays one where nothing is shown.
 pub fn parts_shown<'a>(
     last: usize,
     closeness: u64,

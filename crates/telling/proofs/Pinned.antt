@@ -23,5 +23,5 @@ pinned = record {
   row_of_F = refl;
   refused_row = λ J channel year number place. refl;
   shown_system = λ J e D A b. refl;
-  refused_system = λ r. refl;
+  refused_system = λ number place. refl;
 }

@@ -4,8 +4,6 @@ use Rattle.definitions.specs.Layout.{row_at, row_length}
 use Rattle.definitions.specs.Refusals.{clear, refuses}
 use Rattle.definitions.specs.Matrix.{passed, fails}
 use Rattle.definitions.specs.Machine.{refused, opened, judged, settled, going, written, ultimate_is, struck_out}
-use Rattle.layout.specs.declared.refusals.Refusal.{Refusal as Refused}
-use Rattle.layout.specs.Refusals.{number_of}
 use Rattle.chain.specs.Arrays.{figures_at}
 use Rattle.telling.specs.declared.Refusal.{Refusal}
 use Rattle.telling.specs.Told.{refusal_told, judge_told, sweep_told, ultimate_told, told_of_row, system_told}
@@ -41,9 +39,9 @@ pub record Pinned : Type 0 where
       → system_told (Ok (figures_at J e D A b))
       ≡ record { refusal = refusal 0 0; last = J; closeness = e; own = D; matrix = A; right_hand = b }
   -- with zeros in place of the figures
-  pub refused_system : (r : Refused) → system_told (Err r)
+  pub refused_system : (number place : ℕ) → system_told (Err (refusal number place))
       ≡ record {
-        refusal = refusal (number_of r.reason) r.place;
+        refusal = refusal number place;
         last = 0;
         closeness = 0;
         own = replicate 31 0;

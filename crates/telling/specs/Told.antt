@@ -6,7 +6,7 @@ use Rattle.definitions.specs.Matrix.{passed, fails}
 use Rattle.definitions.specs.Ultimate.{Ultimate}
 use Rattle.definitions.specs.Machine.{Answer, refused, opened, judged, settled, going, written, ultimate_is, struck_out, part_shown, row_is_shown, closed}
 use Rattle.layout.specs.declared.refusals.Refusal.{Refusal as Refused}
-use Rattle.layout.specs.Refusals.{refused_as}
+use Rattle.layout.specs.Refusals.{number_of}
 use Rattle.chain.specs.declared.arrays.Figures.{Figures}
 use Rattle.telling.specs.declared.Refusal.{Refusal}
 use Rattle.telling.specs.declared.Judged.{Judged}
@@ -17,6 +17,24 @@ use Rattle.telling.specs.declared.System.{System}
 
 abbrev pub none : Refusal
 none = record { number = 0; place = 0 }
+
+-- ---- a refusal, of any number and place
+
+-- of one of the specification's reasons
+abbrev pub of_reason : Refused → Refusal
+of_reason r = record { number = number_of r.reason; place = r.place }
+
+-- an answer of the machine, with whatever refusals, by how they are told
+abbrev pub answered : {X E : Type 0} → (E → Refusal) → (Result X Refused → Answer) → Result X E → Answer
+answered told of (Ok x) = of (Ok x)
+answered told of (Err e) = refused (told e).number (told e).place
+
+-- what is shown, or its refusal as it is told
+abbrev pub shown_or_told : {X E : Type 0} → (E → Refusal) → Result X E → Result X Refusal
+shown_or_told told (Ok x) = Ok x
+shown_or_told told (Err e) = Err (told e)
+
+-- ---- the numbers of an answer
 
 -- Number and place of a refusal; 1 where the mean passes; a count: the first part that fails, or the sweeps run since open or the last
 -- strike; and a figure.
@@ -92,6 +110,6 @@ no_figures = record {
   right_hand = replicate 31 (pos 0);
 }
 
-abbrev pub system_told : Result Figures Refused → System
+abbrev pub system_told : Result Figures Refusal → System
 system_told (Ok F) = system_of none F
-system_told (Err r) = system_of (refusal_told (refused_as r)) no_figures
+system_told (Err refusal) = system_of refusal no_figures

@@ -9,7 +9,8 @@ ghost use Rattle.sweeping.specs.Sweeps.{of_sweep};
 ghost use Rattle.writing.specs.Writes.{of_write};
 ghost use Rattle.projecting.specs.Projects.{of_project};
 ghost use Rattle.striking.specs.Strikes.{of_strike};
-ghost use Rattle.telling.specs.Told.{refusal_told, judge_told, sweep_told, system_of, system_told, ultimate_told};
+ghost use Rattle.telling.specs.declared.Refusal.{Refusal};
+ghost use Rattle.telling.specs.Told.{of_reason, answered, shown_or_told, refusal_told, judge_told, sweep_told, system_of, system_told, ultimate_told};
 
 use chain::arrays::Figures;
 use chain::judge::Judgement;
@@ -81,6 +82,34 @@ impl From<refusals::Refusal> for Refusal {
     }
 }
 
+// A refusal that C can be told, by its number and its place.
+pub trait Told {
+    ghost told: { Self → Refusal };
+
+    fn told(self) -> Refusal
+        ensures { result ≡ told self };
+}
+
+impl Told for refusals::Refusal {
+    ghost told = { of_reason };
+
+    fn told(self) -> Refusal {
+        self.into()
+    }
+}
+
+// One of any number.
+impl Told for Refusal {
+    ghost told = { λ r. r };
+
+    fn told(self) -> Refusal {
+        Refusal {
+            number: self.number,
+            place: self.place,
+        }
+    }
+}
+
 pub fn refusal_of(number: u64, place: usize) -> Refusal
     ensures { result ≡ record { number = number; place = place } }
 {
@@ -138,47 +167,48 @@ pub fn row_as(refusal: Refusal, start: usize, length: usize) -> RowShown
 }
 
 // Of a call that answers no more than that it did its job.
-pub fn done_told(a: Result<(), refusals::Refusal>) -> Refusal
-    ensures opened { result ≡ refusal_told (of_open a) }
-    ensures struck { result ≡ refusal_told (of_strike a) }
-    ensures written { result ≡ refusal_told (of_write a) }
+pub fn done_told<E: Told>(a: Result<(), E>) -> Refusal
+    ensures opened { result ≡ refusal_told (answered E.told of_open a) }
+    ensures struck { result ≡ refusal_told (answered E.told of_strike a) }
+    ensures written { result ≡ refusal_told (answered E.told of_write a) }
 {
     match a {
         Ok(()) => NONE,
-        Err(refusal) => refusal.into(),
+        Err(refusal) => refusal.told(),
     }
 }
 
-pub fn judge_told(a: Result<Judgement, refusals::Refusal>) -> Judged
-    ensures { result ≡ judge_told (of_judge a) }
+pub fn judge_told<E: Told>(a: Result<Judgement, E>) -> Judged
+    ensures { result ≡ judge_told (answered E.told of_judge a) }
 {
     match a {
         Ok(Judgement::Passed) => judged_as(NONE, 1, 0),
         Ok(Judgement::Fails(k)) => judged_as(NONE, 0, k),
-        Err(refusal) => judged_as(refusal.into(), 0, 0),
+        Err(refusal) => judged_as(refusal.told(), 0, 0),
     }
 }
 
-pub fn sweep_told(a: Result<Progress, refusals::Refusal>) -> Swept
-    ensures { result ≡ sweep_told (of_sweep a) }
+pub fn sweep_told<E: Told>(a: Result<Progress, E>) -> Swept
+    ensures { result ≡ sweep_told (answered E.told of_sweep a) }
 {
     match a {
         Ok(Progress::Settled(total)) => swept_as(NONE, 1, total),
         Ok(Progress::Going(total)) => swept_as(NONE, 0, total),
-        Err(refusal) => swept_as(refusal.into(), 0, 0),
+        Err(refusal) => swept_as(refusal.told(), 0, 0),
     }
 }
 
-pub fn ultimate_told(a: Result<Ultimate, refusals::Refusal>) -> Projected
-    ensures { result ≡ ultimate_told (of_project a) }
+pub fn ultimate_told<E: Told>(a: Result<Ultimate, E>) -> Projected
+    ensures { result ≡ ultimate_told (answered E.told of_project a) }
 {
     match a {
         Ok(found) => projected_as(NONE, found.floor, found.remainder, found.divisor),
-        Err(refusal) => projected_as(refusal.into(), 0, 0, 0),
+        Err(refusal) => projected_as(refusal.told(), 0, 0, 0),
     }
 }
 
-fn system_of(refusal: Refusal, figures: Figures) -> System
+// The figures beside their refusal, which is none where they are shown.
+pub fn system_of(refusal: Refusal, figures: Figures) -> System
     ensures { result ≡ system_of refusal figures }
 {
     let own = figures.own;
@@ -195,8 +225,8 @@ fn system_of(refusal: Refusal, figures: Figures) -> System
 }
 
 // Zeros where nothing is shown.
-pub fn system_told(shown: Result<Figures, refusals::Refusal>) -> System
-    ensures { result ≡ system_told shown }
+pub fn system_told<E: Told>(shown: Result<Figures, E>) -> System
+    ensures { result ≡ system_told (shown_or_told E.told shown) }
 {
     match shown {
         Ok(figures) => system_of(NONE, figures),
@@ -208,7 +238,7 @@ pub fn system_told(shown: Result<Figures, refusals::Refusal>) -> System
                 matrix: [0; 961],
                 right_hand: [0; 31],
             };
-            system_of(refusal.into(), nothing)
+            system_of(refusal.told(), nothing)
         }
     }
 }

@@ -8,7 +8,7 @@ use Rattle.showing.proofs.shown.parts_shown.Goals as goal
 use Rattle.showing.proofs.shown.parts_shown.Goals.{Else-not-frame_fits}
 
 pub returns-then-not-frame_fits : goal.returns-then-not-frame_fits
-returns-then-not-frame_fits c = λ h. c.frame_fits.ensures.when_no c.if-not-frame_fits.true (frame h)
+returns-then-not-frame_fits c = (λ h. c.frame_fits.ensures.when_no c.if-not-frame_fits.true (frame h), c.requires)
 
 -- the session that is lent
 abbrev S : Else-not-frame_fits → Held
@@ -29,7 +29,7 @@ matrix_shown-requires c =
 
 pub returns-in_err-matrix_shown : goal.returns-in_err-matrix_shown
 returns-in_err-matrix_shown c =
-    let handed : c.from_residual.result ≡ None = grind arith in rw handed (λ h. c.in_err-matrix_shown.ensures (rows h))
+    let handed : c.from_residual.result ≡ None = grind arith in rw handed (λ h. c.in_err-matrix_shown.ensures.0 (rows h), c.in_err-matrix_shown.ensures.1)
 
 pub returns : goal.returns
 returns c =
