@@ -1,4 +1,5 @@
-use Rattle.std.proofs.Common.{◌+◌, ◌-◌, refl, ◌∙◌, arith}
+use Rattle.std.proofs.Common.{◌+◌, ◌-◌, ap, refl, ◌∙◌, arith}
+use Rattle.std.specs.Int.{to_be_bytes, w64}
 use Rattle.std.proofs.lemmas.Slice.{put_mid-paste}
 use Rattle.definitions.specs.Layout.{bytes_of}
 use Rattle.fields.proofs.BigEndian.{eight_bytes}
@@ -10,5 +11,5 @@ returns c =
     let a = c.args in
     record {
       is = put_mid-paste a.at (a.at + 8 - a.at) a.buf.now c.copy_from_slice.new.self (bytes_of 8 a.v) 8
-          (c.copy_from_slice.ensures.after ∙ c.to_be_bytes.ensures ∙ eight_bytes a.v) (omega arith) refl;
+          (c.copy_from_slice.ensures.after ∙ c.to_be_bytes.ensures ∙ ap (to_be_bytes w64) (omega arith) ∙ eight_bytes a.v) (omega arith) refl;
     }
