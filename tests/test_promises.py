@@ -134,7 +134,7 @@ PINNED = {
     "striking/Pinned": "strike_refused ( struck_keeps struck_holds )",
     "showing/Pinned":
         "( none_shown ( shown_numbers shown_own shown_entry shown_right_hand ) ( numbers_of_file own_of_file entry_of_file "
-        "right_hand_of_file ) )",
+        "right_hand_of_file ) ) none_put open_put",
     "session/Pinned": "held_whole",
     "telling/Pinned":
         "refusal Pinned opened_file refused_file written_mean struck_step passed_mean failing_mean refused_record settled_mean going_mean "

@@ -1,5 +1,5 @@
 -- What callers can count on, in plain numbers, each drawn from the contract of figures alone.
-use Rattle.std.specs.Prelude.{ℕ, ◌+◌, ◌*◌, ◌<◌, ◌≡◌, refl, List, ℤ, pos, Result, Ok, Err, IsOkAnd}
+use Rattle.std.specs.Prelude.{ℕ, ◌+◌, ◌*◌, ◌<◌, ◌≡◌, refl, List, ℤ, pos, replicate, Result, Ok, Err, IsOkAnd}
 use Rattle.std.proofs.Math.Path.{ap}
 use Rattle.std.proofs.Common.{◌∙◌}
 use Rattle.std.proofs.Math.ListN.{get_or}
@@ -12,8 +12,9 @@ use Rattle.laws.proofs.Tables.{tab_at}
 use Rattle.layout.specs.declared.refusals.Reason.TheVariants.{NothingOpen}
 use Rattle.layout.specs.declared.refusals.Refusal.{Refusal}
 use Rattle.chain.specs.declared.arrays.Figures as arrays
+use Rattle.chain.specs.Arrays.{figures_at}
 use Rattle.holding.specs.State.{Held, state_of, HoldsFile}
-use Rattle.showing.specs.Shows.{in_arrays, FiguresOf, shows_to, Shows}
+use Rattle.showing.specs.Shows.{in_arrays, FiguresOf, shows_to, Shows, Puts}
 use Rattle.showing.proofs.ShowLaws.{entry_at}
 
 -- what holds of figures holds of those that are shown
@@ -62,3 +63,19 @@ module _ (s : Held) (r : Result arrays.Figures Refusal) (call : Shows s r) where
     pub right_hand_of_file : (k : ℕ) → k < 2 * last_year f.file + 1
         → IsOkAnd r (λ v. part v.right_hand k ≡ right_hand_side (chain_left f) k)
     right_hand_of_file k below = shown_so r shown_file (λ v told. told.right_hand k below)
+
+-- ---- in a place that is lent
+
+-- beside a refusal every number is 0
+pub none_put : (s : Held) (r : Result Unit Refusal) (v : arrays.Figures) → Puts s r v → state_of s ≡ empty
+    → (r ≡ Err (record { reason = NothingOpen; place = 0 }))
+    × (v ≡ figures_at 0 0 (replicate 31 0) (replicate 961 (pos 0)) (replicate 31 (pos 0)))
+unfolding shows_to
+none_put s (Ok done) v call none = let e = call.shown ∙ ap shows_to none in (cc, cc)
+none_put s (Err x) v call none = let e = call.0.shown ∙ ap shows_to none in (cc, call.1)
+
+pub open_put : (s : Held) (r : Result Unit Refusal) (v : arrays.Figures) → Puts s r v → (F : Figures) (μ : List ℤ) (count : ℕ)
+    → state_of s ≡ holds F μ count → (r ≡ Ok tt) × (v ≡ in_arrays F)
+unfolding shows_to
+open_put s (Ok tt) v call F μ count some = let e = call.shown ∙ ap shows_to some in (refl, cc)
+open_put s (Err x) v call F μ count some = let e = call.0.shown ∙ ap shows_to some in (cc, cc)
