@@ -28,22 +28,22 @@ module _ (s : Held) (r : Result arrays.Figures Refusal) (call : Shows s r) where
   none_shown none = call.shown ∙ ap shows_to none
 
   module _ (F : Figures) (μ : List ℤ) (count : ℕ) (some : state_of s ≡ holds F μ count) where
-    e : r ≡ Ok (in_arrays F)
+    e : r ≡ shows_to (state_of s) → r ≡ Ok (in_arrays F)
     unfolding shows_to
-    e = call.shown ∙ ap shows_to some
+    e told = told ∙ ap shows_to some
 
     pub shown_numbers : IsOkAnd r (λ v. (v.last ≡ F.last) × (v.closeness ≡ F.closeness))
-    shown_numbers = rw e (refl, refl)
+    shown_numbers = rw (e call.shown) (refl, refl)
 
     pub shown_own : (k : ℕ) → k < 31 → IsOkAnd r (λ v. get_or v.own k 0 ≡ get_or F.own k 0)
-    shown_own k below = rw e (tab_at 31 (λ i. get_or F.own i 0) k 0 below)
+    shown_own k below = rw (e call.shown) (tab_at 31 (λ i. get_or F.own i 0) k 0 below)
 
     -- in both halves
     pub shown_entry : (k l : ℕ) → k < 31 → l < 31 → IsOkAnd r (λ v. part v.matrix (31 * k + l) ≡ entry F k l)
-    shown_entry k l k-below l-below = rw e (entry_at F k l k-below l-below)
+    shown_entry k l k-below l-below = rw (e call.shown) (entry_at F k l k-below l-below)
 
     pub shown_right_hand : (k : ℕ) → k < 31 → IsOkAnd r (λ v. part v.right_hand k ≡ part F.right_hand_side k)
-    shown_right_hand k below = rw e (tab_at 31 (part F.right_hand_side) k (pos 0) below)
+    shown_right_hand k below = rw (e call.shown) (tab_at 31 (part F.right_hand_side) k (pos 0) below)
 
   -- of the file that is open, whatever its J
   module _ (f : StruckFile) (μ : List ℤ) (count : ℕ) (open-file : HoldsFile s f μ count) where
